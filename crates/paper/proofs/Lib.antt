@@ -1,0 +1,14 @@
+pub mod Law
+pub mod Test
+pub mod Text
+pub mod Number
+pub mod String
+pub mod Part
+pub mod Clear
+pub mod Row
+pub mod RoundTrip
+pub mod Split
+pub mod Counter
+pub mod Store
+pub mod Invariant
+pub mod Cases

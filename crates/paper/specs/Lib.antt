@@ -1,0 +1,11 @@
+pub mod Byte
+pub mod Line
+pub mod Command
+pub mod Refusal
+pub mod Read
+pub mod Write
+pub mod Form
+pub mod Set
+pub mod Bench
+pub mod Program
+pub mod State

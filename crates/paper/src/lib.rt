@@ -1,0 +1,1 @@
+// The paper has no code: its definitions and theorems stand in specs/.

@@ -11,4 +11,7 @@ pub mod Split
 pub mod Counter
 pub mod Store
 pub mod Invariant
+pub mod Shown
+pub mod Filled
+pub mod SetOf
 pub mod Cases

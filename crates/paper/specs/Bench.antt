@@ -37,6 +37,7 @@ pub record Outcome : Type 0 where
   pub answer : Answer
   pub next : Bench
 
+-- an answer, and the store and the session that it leaves
 unfoldable pub outcome : Answer → List Form → Session → Outcome
 outcome answer forms session = record { answer = answer; next = record { forms = forms; session = session } }
 
@@ -59,6 +60,7 @@ afterRefusal (answering ls answers) = idle
 afterRefusal (ready ls answers) = ready ls answers
 afterRefusal (printing ls answers n c i) = printing ls answers n c i
 
+-- a refused line
 unfoldable pub refuse : Refusal → List Form → Session → Outcome
 refuse r forms session = outcome (refused r) forms (afterRefusal session)
 
@@ -67,6 +69,7 @@ unfoldable pub openedWith : List FormLine → List Define → Session
 openedWith ls [] = ready ls []
 openedWith ls (d ∷ ds) = opened ls
 
+-- `FR` of an absent name is 12
 unfoldable pub recalled : List Form → Option (List FormLine) → Outcome
 recalled forms none = refuse absent forms idle
 recalled forms (some ls) = done forms (openedWith ls (asked ls))
@@ -75,6 +78,7 @@ recalled forms (some ls) = done forms (openedWith ls (asked ls))
 unfoldable pub deleted : List ℕ → List Form → List Form
 deleted name forms = if same name star then [] else without name forms
 
+-- the lines to the store in Idle
 unfoldable pub filed : ℕ → List Form → Filing → Outcome
 filed room forms (start name) =
     if isSome (find name forms) then refuse nameTaken forms idle else done forms (collecting name [])
@@ -123,7 +127,7 @@ inCollecting forms name ls (file filing) =
 inCollecting forms name ls ask = refuse notNow forms (collecting name ls)
 inCollecting forms name ls (print n c) = refuse notNow forms (collecting name ls)
 
--- Collecting a spoiled form: lines are still read, and dropped; `FE` is 8 and goes to Idle
+-- Collecting a spoiled form: lines that could be kept are dropped, others are 3; `FE` is 8 and goes to Idle
 unfoldable pub inSpoiled : List Form → Command → Outcome
 inSpoiled forms empty = done forms spoiled
 inSpoiled forms new = refuse notNow forms spoiled

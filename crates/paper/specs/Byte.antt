@@ -43,12 +43,12 @@ same [] (c ∷ t) = false
 same (b ∷ s) [] = false
 same (b ∷ s) (c ∷ t) = eqb b c && same s t
 
--- a number's decimal digits without leading zeros; the first argument counts the digits that are left to make
+-- the last digits of a number in decimal, at most one more than the first argument says, without leading zeros
 unfoldable pub decimalWithin : ℕ → ℕ → List ℕ
 decimalWithin zero n = (code "0" + n % 10) ∷ []
 decimalWithin (suc k) n =
     elim (ltb n 10) [ true ↦ (code "0" + n) ∷ [] | false ↦ decimalWithin k (n / 10) ++ ((code "0" + n % 10) ∷ []) ]
 
--- a number in decimal: it has no more digits than its value
+-- a number in decimal, without leading zeros: no number has more digits than its value and one
 unfoldable pub decimal : ℕ → List ℕ
 decimal n = decimalWithin n n

@@ -162,7 +162,7 @@ filingRanges inform = []
 filingRanges (recall name) = (isName name ∷ []) ∷ []
 filingRanges (delete name) = ((isName name || same name star) ∷ []) ∷ []
 
--- the ranges of the table: a list of tests for each parameter, in the line's order
+-- the ranges of the table: a list of tests for each part of the line, in the line's order
 unfoldable pub ranges : ℕ → Command → List (List Bool)
 ranges width empty = []
 ranges width new = []
@@ -183,6 +183,7 @@ unfoldable pub allOf : List (List Bool) → Bool
 allOf [] = true
 allOf (p ∷ ps) = all p && allOf ps
 
--- a command within the label's limits, which are the ranges of the table
+-- a command within the label's limits, which are the ranges of the table; a label is at most 10,000 dots wide, so that
+-- every place on it has at most 5 digits
 unfoldable pub inRange : ℕ → Command → Bool
 inRange width c = allOf (ranges width c)

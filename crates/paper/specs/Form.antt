@@ -1,4 +1,4 @@
--- 'The form store': a form's text and its limits, the rules of a sound form, and the forms that are stored.
+-- 'The form store': a form's text and its limits, the rules of a sound form, the stored forms and the reply to `FI`.
 use Prim.Native.Nat.{ℕ, zero, suc, _+_, _-_}
 use mathlib.Core.Bool.{Bool, true, false, not, _&&_, _||_}
 use mathlib.Core.List.{List, [], _∷_, _++_, map}
@@ -103,14 +103,14 @@ unfoldable pub rules : ℕ → List Define → FormLine → List Bool
 rules k above line = inPlace k line ∷ valueSound above line
 
 -- the first line that breaks a rule, counted from 1; a missing line 1 or 2 breaks its rule like a wrong one
-unfoldable pub broken : ℕ → List Define → List FormLine → Option ℕ
-broken k above [] = if ltb k 2 then some (suc k) else none
-broken k above (l ∷ ls) =
-    elim (all (rules k above l)) [ true ↦ broken (suc k) (above ++ asked (l ∷ [])) ls | false ↦ some (suc k) ]
+unfoldable pub firstBroken : ℕ → List Define → List FormLine → Option ℕ
+firstBroken k above [] = if ltb k 2 then some (suc k) else none
+firstBroken k above (l ∷ ls) =
+    elim (all (rules k above l)) [ true ↦ firstBroken (suc k) (above ++ asked (l ∷ [])) ls | false ↦ some (suc k) ]
 
 -- where a form is unsound, if it is
 unfoldable pub unsoundAt : List FormLine → Option ℕ
-unsoundAt ls = broken 0 [] ls
+unsoundAt ls = firstBroken 0 [] ls
 
 -- a stored form
 pub record Form : Type 0 where

@@ -1,4 +1,5 @@
--- 'Lines and strings': how input falls into lines, and how the parts of a line are read.
+-- 'Lines and strings': how input falls into lines, how the parts of a line are read, and how a string is written.
+-- A line is what remains of it after dropping CR and 1AH, without its LF.
 use Prim.Native.Nat.{ℕ, zero, suc, _+_, _-_, _*_}
 use Prim.Native.Char.{code}
 use mathlib.Core.Bool.{Bool, true, false, _||_}
@@ -20,7 +21,7 @@ unfoldable pub kept : List ℕ → List ℕ
 kept [] = []
 kept (b ∷ s) = if isDropped b then kept s else (b ∷ kept s)
 
--- a byte in front of the first of some lines
+-- a byte in front of the first of some lines; where there is none the byte belongs to no line
 unfoldable pub infront : ℕ → List (List ℕ) → List (List ℕ)
 infront b [] = []
 infront b (s ∷ ss) = (b ∷ s) ∷ ss

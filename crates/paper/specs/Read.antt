@@ -18,11 +18,12 @@ orElse p q s = elim (p s) [ got a rest ↦ got a rest | bad ↦ q s ]
 unfoldable pub font : Reader ℕ
 font = orElse number (letter >> give 0)
 
--- a step: a sign and a number
+-- a sign and a number as a step; `-0` is `+0`
 unfoldable pub stepOf : ℕ → ℕ → Step
 stepOf sign zero = up 0
 stepOf sign (suc n) = if eqb sign (code "+") then up (suc n) else down (suc n)
 
+-- a step: a sign and then a number
 unfoldable pub step : Reader Step
 step = do
   sign ← one (among (bytes "+-"))
@@ -155,7 +156,7 @@ unfoldable pub these : List ℕ → Reader ℕ
 these [] = give 0
 these (b ∷ s) = byte b >> these s
 
--- the shape of a line: a command whose ranges are not judged yet, or what is wrong with it
+-- the shape of a line: a command whose ranges are not judged yet, unknown leading letters (4) or a malformed rest (5)
 pub data Shape : Type 0 where
   shaped : Command → Shape
   strange : Shape

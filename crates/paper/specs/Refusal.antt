@@ -1,6 +1,7 @@
 -- 'Refusals by number': a word for each refusal with the number that 01 gives it, and the answer to a call.
 use Prim.Native.Nat.{ℕ}
-use mathlib.Core.List.{List, [], _∷_}
+use mathlib.Core.List.{List, [], _∷_, _++_}
+use lib.ListN.{length, drop}
 
 -- the refusals in the order of their numbers; the ninth names a line of the form
 pub data Refusal : Type 0 where
@@ -44,3 +45,8 @@ figures notPrinting = 16 ∷ []
 pub data Answer : Type 0 where
   accepted : List ℕ → Answer
   refused : Refusal → Answer
+
+-- a lent buffer after a call: the bytes of an accepted one stand at its front, and nothing else is touched
+unfoldable pub lent : List ℕ → Answer → List ℕ
+lent buffer (accepted bytes) = bytes ++ drop (length bytes) buffer
+lent buffer (refused r) = buffer

@@ -38,7 +38,7 @@ unfoldable pub holdsTo : ℕ → Define → List ℕ → Bool
 holdsTo last (counting n len letter by prompt) a = holds len by (amount 0 a) 0 && holds len by (amount 0 a) last
 holdsTo last (varying n len letter prompt) a = true
 
--- no counter of a form leaves its bounds in sets 0 to last
+-- no counter of a form leaves its bounds in the first or the last set, which by `holds-everywhere` is in every set
 unfoldable pub allHold : ℕ → List Define → List (List ℕ) → Bool
 allHold last [] given = true
 allHold last (d ∷ ds) [] = true

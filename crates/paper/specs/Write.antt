@@ -84,7 +84,7 @@ normal (file filing) = filingText filing
 normal ask = bytes "?"
 normal (print n c) = bytes "P" ++ commas (decimal n ∷ decimal c ∷ [])
 
--- writing into a buffer with so much room: the normal form, or a refusal of a command that no line reads as
+-- writing into a buffer with so much room: 6 for a command that no line reads as, then 15 for a short buffer
 unfoldable pub write : (width room : ℕ) → Command → Answer
 write width room c =
     if inRange width c then

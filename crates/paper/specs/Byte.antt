@@ -1,11 +1,14 @@
 -- Bytes: the few words that every chapter of the paper uses. A byte is a number below 256; text is a list of bytes.
-use Prim.Native.Nat.{ℕ, zero, suc, _+_, _/_, _%_}
-use Prim.Native.Char.{code}
-use Prim.Native.String.{String}
+pub use Prim.Native.Nat.{ℕ, zero, suc, _+_, _-_, _*_, _/_, _%_, _^_, _≤_, _<_}
+pub use Prim.Native.Char.{code}
+pub use mathlib.Core.Bool.{Bool, true, false, _||_, _&&_, not}
+pub use mathlib.Core.List.{List, [], _∷_, _++_, map}
+pub use lib.ListN.{length, drop, replicate, take}
+pub use lib.Dec.{ltb, eqb, leb}
+pub use Prim.Native.String.{String}
+pub use mathlib.Core.Option.{Option, none, some}
+pub use mathlib.Core.Path.{_≡_}
 use Prim.Native.String as Str
-use mathlib.Core.Bool.{Bool, true, false, _&&_, _||_}
-use mathlib.Core.List.{List, [], _∷_, _++_}
-use lib.Dec.{leb, ltb, eqb}
 
 -- a text in quotes, as its bytes
 unfoldable pub bytes : String → List ℕ

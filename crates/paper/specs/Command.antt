@@ -1,11 +1,5 @@
 -- 'The commands of the profile': what a line says, and the ranges of the table over the label's width.
-use Prim.Native.Nat.{ℕ, _+_, _-_}
-use Prim.Native.Char.{code}
-use mathlib.Core.Bool.{Bool, true, false, _&&_, _||_}
-use mathlib.Core.List.{List, [], _∷_, _++_}
-use lib.ListN.{length}
-use lib.Dec.{leb, ltb, eqb}
-use Rattle.paper.specs.Byte.{bytes, between, every, among, same}
+use Rattle.paper.specs.Byte.{ℕ, _+_, _-_, code, Bool, true, false, _&&_, _||_, List, [], _∷_, _++_, length, leb, ltb, eqb, bytes, between, every, among, same}
 use Rattle.paper.specs.Line.{isDigit}
 
 -- a value by its number: `Cn` or `Vnn`

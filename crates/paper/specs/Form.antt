@@ -1,11 +1,5 @@
 -- 'The form store': a form's text and its limits, the rules of a sound form, the stored forms and the reply to `FI`.
-use Prim.Native.Nat.{ℕ, zero, suc, _+_, _-_}
-use mathlib.Core.Bool.{Bool, true, false, not, _&&_, _||_}
-use mathlib.Core.List.{List, [], _∷_, _++_, map}
-use mathlib.Core.Option.{Option, none, some}
-use lib.ListN.{length}
-use lib.Dec.{leb, ltb, eqb}
-use Rattle.paper.specs.Byte.{bytes, if_then_else_, same}
+use Rattle.paper.specs.Byte.{ℕ, zero, suc, _+_, _-_, Bool, true, false, not, _&&_, _||_, List, [], _∷_, _++_, map, Option, none, some, length, leb, ltb, eqb, bytes, if_then_else_, same}
 use Rattle.paper.specs.Line.{lf}
 use Rattle.paper.specs.Command.{Value, counter, variable, Content, text, shown, joined, Draw, size, direction, put, bar, frame, Define, counting, varying, FormLine, draw, define, Command, keep, all}
 use Rattle.paper.specs.Write.{linesText}

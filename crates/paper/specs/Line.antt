@@ -1,12 +1,6 @@
 -- 'Lines and strings': how input falls into lines, how the parts of a line are read, and how a string is written.
 -- A line is what remains of it after dropping CR and 1AH, without its LF.
-use Prim.Native.Nat.{ℕ, zero, suc, _+_, _-_, _*_}
-use Prim.Native.Char.{code}
-use mathlib.Core.Bool.{Bool, true, false, _||_}
-use mathlib.Core.List.{List, [], _∷_, _++_}
-use lib.ListN.{length}
-use lib.Dec.{ltb, eqb}
-use Rattle.paper.specs.Byte.{if_then_else_, between, any}
+use Rattle.paper.specs.Byte.{ℕ, zero, suc, _+_, _-_, _*_, code, Bool, true, false, _||_, List, [], _∷_, _++_, length, ltb, eqb, if_then_else_, between, any}
 
 -- the byte that ends a line
 abbrev pub lf : ℕ

@@ -1,8 +1,5 @@
 -- 'The program and one whole run': input bytes to output bytes and error bytes.
-use Prim.Native.Nat.{ℕ, zero, suc, _-_}
-use Prim.Native.Char.{code}
-use mathlib.Core.List.{List, [], _∷_, _++_}
-use Rattle.paper.specs.Byte.{decimal}
+use Rattle.paper.specs.Byte.{ℕ, zero, suc, _-_, code, List, [], _∷_, _++_, decimal}
 use Rattle.paper.specs.Line.{lf, kept, cut}
 use Rattle.paper.specs.Refusal.{figures, Answer, accepted, refused}
 use Rattle.paper.specs.Bench.{Session, idle, collecting, spoiled, opened, answering, ready, printing, Bench, begin, Outcome, hear, takeSet}

@@ -1,7 +1,5 @@
 -- 'Refusals by number': a word for each refusal with the number that 01 gives it, and the answer to a call.
-use Prim.Native.Nat.{ℕ}
-use mathlib.Core.List.{List, [], _∷_, _++_}
-use lib.ListN.{length, drop}
+use Rattle.paper.specs.Byte.{ℕ, List, [], _∷_, _++_, length, drop}
 
 -- the refusals in the order of their numbers; the ninth names a line of the form
 pub data Refusal : Type 0 where

@@ -1,10 +1,5 @@
 -- The states that calls lead to, and what holds of each of them.
-use Prim.Native.Nat.{ℕ, _-_, _≤_, _<_}
-use mathlib.Core.Bool.{Bool, true, false, _&&_}
-use mathlib.Core.List.{List, [], _∷_}
-use mathlib.Core.Option.{none}
-use mathlib.Core.Path.{_≡_}
-use lib.ListN.{length, take}
+use Rattle.paper.specs.Byte.{ℕ, _-_, _≤_, _<_, Bool, true, false, _&&_, List, [], _∷_, none, _≡_, length, take}
 use Rattle.paper.specs.Command.{Define, FormLine, keep, isName, inRange}
 use Rattle.paper.specs.Form.{Form, withinLimits, asked, unsoundAt, find, used}
 use Rattle.paper.specs.Set.{fits, allHold}

@@ -40,10 +40,12 @@ unfoldable pub defined : Value → List Define → Option Define
 defined v [] = none
 defined v (d ∷ ds) = if sameValue v (valueOf d) then some d else defined v ds
 
+-- there is one
 unfoldable pub isSome {ℓ} : {A : Type ℓ} → Option A → Bool
 isSome none = false
 isSome (some a) = true
 
+-- a `Q`
 unfoldable pub isSize : Draw → Bool
 isSize (size p₁ p₂) = true
 isSize (direction d) = false
@@ -51,6 +53,7 @@ isSize (put s c) = false
 isSize (bar pen x y w t) = false
 isSize (frame x₁ y₁ t x₂ y₂) = false
 
+-- a `Z`
 unfoldable pub isDirection : Draw → Bool
 isDirection (size p₁ p₂) = false
 isDirection (direction d) = true
@@ -80,6 +83,7 @@ contentSound above (text s) = []
 contentSound above (shown v) = isSome (defined v above) ∷ []
 contentSound above (joined s v) = isSome (defined v above) ∷ roomFor s (defined v above) ∷ []
 
+-- only an `A` names values
 unfoldable pub drawSound : List Define → Draw → List Bool
 drawSound above (size p₁ p₂) = []
 drawSound above (direction d) = []

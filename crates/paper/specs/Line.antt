@@ -49,10 +49,11 @@ followed bad next = bad
 
 infixr 10 _>>=_
 infixr 10 _>>_
--- the two signs of `do`: the parts of a line one after the other
+-- the signs of `do`: the parts of a line one after the other
 abbrev pub _>>=_ : {A B : Type 0} → Reader A → (A → Reader B) → Reader B
 _>>=_ part next s = followed (part s) next
 
+-- the same where the first part has no value of use
 abbrev pub _>>_ : {A B : Type 0} → Reader A → Reader B → Reader B
 _>>_ part next s = followed (part s) (λ _. next)
 
@@ -119,9 +120,11 @@ number = do
 unfoldable pub letter : Reader ℕ
 letter = one (between (code "A") (code "Z"))
 
+-- the byte that opens and closes a string
 abbrev pub quote : ℕ
 quote = code "\""
 
+-- the byte behind which the next is taken literally
 abbrev pub backslash : ℕ
 backslash = code "\\"
 

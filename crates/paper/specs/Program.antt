@@ -38,11 +38,12 @@ toTake (answering ls answers) = 0
 toTake (ready ls answers) = 0
 toTake (printing ls answers n c i) = n - i
 
--- so many takes, one after the other: the bytes that they give, and the bench that they leave
+-- the bytes that so many takes give, one after the other
 unfoldable pub takes : ℕ → Bench → List ℕ
 takes zero b = []
 takes (suc n) b = outOf (takeSet enough b .answer) ++ takes n (takeSet enough b .next)
 
+-- the bench that so many takes leave
 unfoldable pub afterTakes : ℕ → Bench → Bench
 afterTakes zero b = b
 afterTakes (suc n) b = afterTakes n (takeSet enough b .next)

@@ -47,17 +47,20 @@ content = orElse (string >>= behind) (value >>= λ v. give (shown v))
 
 -- the parts behind the leading letters of each line of the table
 
+-- `Q`: two lengths
 unfoldable pub sizeLine : Reader Command
 sizeLine = do
   p₁ ← part number
   p₂ ← number
   ended (keep (draw (size p₁ p₂)))
 
+-- `Z`: a letter
 unfoldable pub directionLine : Reader Command
 directionLine = do
   d ← letter
   ended (keep (draw (direction d)))
 
+-- `A`: seven parameters and the content
 unfoldable pub textLine : Reader Command
 textLine = do
   x ← part number
@@ -70,6 +73,7 @@ textLine = do
   c ← content
   ended (keep (draw (put (record { x = x; y = y; r = r; f = f; h = h; v = v; m = m }) c)))
 
+-- `LO`, `LE`, `LW`: a place, a width and a height
 unfoldable pub barLine : Pen → Reader Command
 barLine pen = do
   x ← part number
@@ -78,6 +82,7 @@ barLine pen = do
   t ← number
   ended (keep (draw (bar pen x y w t)))
 
+-- `X`: a corner, a thickness and the other corner
 unfoldable pub frameLine : Reader Command
 frameLine = do
   x₁ ← part number
@@ -87,6 +92,7 @@ frameLine = do
   y₂ ← number
   ended (keep (draw (frame x₁ y₁ t x₂ y₂)))
 
+-- `C`: one digit, a len, a letter, a step and a prompt
 unfoldable pub counterLine : Reader Command
 counterLine = do
   n ← part digit
@@ -96,6 +102,7 @@ counterLine = do
   prompt ← string
   ended (keep (define (counting n len l by prompt)))
 
+-- `V`: two digits, a len, a letter and a prompt
 unfoldable pub variableLine : Reader Command
 variableLine = do
   n ← part twoDigits
@@ -104,6 +111,7 @@ variableLine = do
   prompt ← string
   ended (keep (define (varying n len l prompt)))
 
+-- `FS`, `FR`, `FK`: a name
 unfoldable pub nameLine : (List ℕ → Filing) → Reader Command
 nameLine does = do
   name ← string
@@ -113,6 +121,7 @@ nameLine does = do
 unfoldable pub copiesOf : ℕ → Reader Command
 copiesOf n = orElse (ended (print n 1)) (comma >> (number >>= λ c. ended (print n c)))
 
+-- `P`: sets, and copies if given
 unfoldable pub printLine : Reader Command
 printLine = number >>= copiesOf
 
@@ -121,9 +130,11 @@ pub record Row : Type 0 where
   pub letters : String
   pub body : Reader Command
 
+-- a row of the table
 unfoldable pub row : String → Reader Command → Row
 row letters body = record { letters = letters; body = body }
 
+-- 01's table, in its order
 unfoldable pub table : List Row
 table =
     row "N" (ended new)
@@ -156,6 +167,7 @@ pub data Shape : Type 0 where
   strange : Shape
   broken : Shape
 
+-- what follows the letters fits, or the line is malformed
 unfoldable pub bodyShape : Got Command → Shape
 bodyShape (got c s) = shaped c
 bodyShape bad = broken

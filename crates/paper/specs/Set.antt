@@ -86,6 +86,7 @@ commandsOf width [] = some []
 commandsOf width (s ∷ ss) =
     elim (read width s) [ command c ↦ elim (commandsOf width ss) [ some cs ↦ some (c ∷ cs) | none ↦ none ] | unread r ↦ none ]
 
+-- an `N`
 unfoldable pub isNew : Command → Bool
 isNew empty = false
 isNew new = true

@@ -14,24 +14,29 @@ commas (part ∷ next ∷ more) = part ++ (code "," ∷ commas (next ∷ more))
 unfoldable pub two : ℕ → List ℕ
 two n = (code "0" + n / 10) ∷ (code "0" + n % 10) ∷ []
 
+-- `Cn` with one digit, `Vnn` with two
 unfoldable pub valueText : Value → List ℕ
 valueText (counter n) = bytes "C" ++ decimal n
 valueText (variable n) = bytes "V" ++ two n
 
+-- a string, a value, or one behind the other
 unfoldable pub contentText : Content → List ℕ
 contentText (text s) = quoted s
 contentText (shown value) = valueText value
 contentText (joined s value) = quoted s ++ valueText value
 
+-- the letters of the three lines
 unfoldable pub penText : Pen → List ℕ
 penText black = bytes "LO"
 penText flip = bytes "LE"
 penText white = bytes "LW"
 
+-- a sign and a number
 unfoldable pub stepText : Step → List ℕ
 stepText (up n) = bytes "+" ++ decimal n
 stepText (down n) = bytes "-" ++ decimal n
 
+-- the drawing lines
 unfoldable pub drawText : Draw → List ℕ
 drawText (size p₁ p₂) = bytes "Q" ++ commas (decimal p₁ ∷ decimal p₂ ∷ [])
 drawText (direction d) = bytes "Z" ++ (d ∷ [])
@@ -51,12 +56,14 @@ drawText (bar pen x y w t) = penText pen ++ commas (decimal x ∷ decimal y ∷ 
 drawText (frame x₁ y₁ t x₂ y₂) =
     bytes "X" ++ commas (decimal x₁ ∷ decimal y₁ ∷ decimal t ∷ decimal x₂ ∷ decimal y₂ ∷ [])
 
+-- the defining lines
 unfoldable pub defineText : Define → List ℕ
 defineText (counting n len letter by prompt) =
     bytes "C" ++ commas (decimal n ∷ decimal len ∷ (letter ∷ []) ∷ stepText by ∷ quoted prompt ∷ [])
 defineText (varying n len letter prompt) =
     bytes "V" ++ commas (two n ∷ decimal len ∷ (letter ∷ []) ∷ quoted prompt ∷ [])
 
+-- the lines to the store
 unfoldable pub filingText : Filing → List ℕ
 filingText (start name) = bytes "FS" ++ quoted name
 filingText finish = bytes "FE"

@@ -7,8 +7,8 @@ use Rattle.paper.specs.Byte.{bytes, if_then_else_, between, every, any, 
 use Rattle.paper.specs.Line.{isDropped, kept, infront, cut, long, control, followed, give, ended, one, byte, comma, part, isDigit, digit, twoDigits, moreDigits, number, letter, within, string, escape, quoted, plain}
 use Rattle.paper.specs.Command.{isShown, texts, valueRange, contentRanges, settingRanges, drawRanges, stepRange, defineRanges, isNameByte, isName, star, filingRanges, ranges, all, allOf, inRange, Command, keep, print, draw, bar, put, black, text}
 use Rattle.paper.specs.Refusal.{figures, unknown, malformed, outOfRange}
-use Rattle.paper.specs.Read.{orElse, font, stepOf, step, value, behind, content, sizeLine, directionLine, textLine, barLine, frameLine, counterLine, variableLine, nameLine, copiesOf, printLine, row, table, these, bodyShape, byRow, shape, judged, read, Reading, command, unread}
-use Rattle.paper.specs.Write.{commas, two, valueText, contentText, penText, stepText, drawText, defineText, filingText, lineText, normal, write, linesText}
+use Rattle.paper.specs.Read.{orElse, font, stepOf, step, value, behind, content, setting, sizeLine, directionLine, textLine, barLine, frameLine, counterLine, variableLine, nameLine, copiesOf, printLine, row, table, these, bodyShape, byRow, shape, judged, read, Reading, command, unread}
+use Rattle.paper.specs.Write.{commas, two, valueText, contentText, penText, stepText, commaed, settingText, drawText, defineText, filingText, lineText, normal, write, linesText}
 use Rattle.paper.specs.Form.{textOf, withinLimits, asked, valueOf, lenOf, sameValue, defined, isSome, isSize, isDirection, drawing, inPlace, roomFor, contentSound, drawSound, valueSound, rules, firstBroken, unsoundAt, find, without, used, hasRoom, stored, names, listing}
 use Rattle.paper.specs.Set.{fits, amount, valueAt, holds, holdsTo, allHold, padded, shows, valueIn, filled, placed, drawn, setLines, setOf, commandsOf, isNew, draws, isLast, isText, isPlain, endsSet, isSet, isSetText, wellFormed}
 use Rattle.paper.specs.Bench.{begin, outcome, done, replied, afterRefusal, refuse, openedWith, recalled, deleted, filed, inIdle, checked, collected, onFinish, inCollecting, inSpoiled, inOpened, inReady, inPrinting, answeredOf, answered, inAnswering, obeyed, heard, hear, afterSet, taken, takeSet}
@@ -20,17 +20,17 @@ narrow = 812
 
 -- what a line reads as
 unfoldable pub reads : String → Reading
-unfolding bytes if_then_else_ between every any among same decimalWithin decimal isDropped kept infront cut long control followed give ended one byte comma part isDigit digit twoDigits moreDigits number letter within string escape quoted plain isShown texts valueRange contentRanges settingRanges drawRanges stepRange defineRanges isNameByte isName star filingRanges ranges all allOf inRange orElse font stepOf step value behind content sizeLine directionLine textLine barLine frameLine counterLine variableLine nameLine copiesOf printLine row table these bodyShape byRow shape judged read
+unfolding bytes if_then_else_ between every any among same decimalWithin decimal isDropped kept infront cut long control followed give ended one byte comma part isDigit digit twoDigits moreDigits number letter within string escape quoted plain isShown texts valueRange contentRanges settingRanges drawRanges stepRange defineRanges isNameByte isName star filingRanges ranges all allOf inRange orElse font stepOf step value behind content setting sizeLine directionLine textLine barLine frameLine counterLine variableLine nameLine copiesOf printLine row table these bodyShape byRow shape judged read
 reads s = read narrow (bytes s)
 
 -- the normal form of a command
 unfoldable pub normalOf : Command → List ℕ
-unfolding commas two valueText contentText penText stepText drawText defineText filingText lineText normal write linesText
+unfolding commas two valueText contentText penText stepText commaed settingText drawText defineText filingText lineText normal write linesText
 normalOf c = normal c
 
 -- what the program writes for an input
 unfoldable pub ran : String → Output
-unfolding reads figures commas two valueText contentText penText stepText drawText defineText filingText lineText normal write linesText textOf withinLimits asked valueOf lenOf sameValue defined isSome isSize isDirection drawing inPlace roomFor contentSound drawSound valueSound rules firstBroken unsoundAt find without used hasRoom stored names listing fits amount valueAt holds holdsTo allHold padded shows valueIn filled placed drawn setLines setOf commandsOf isNew draws isLast isText isPlain endsSet isSet isSetText wellFormed begin outcome done replied afterRefusal refuse openedWith recalled deleted filed inIdle checked collected onFinish inCollecting inSpoiled inOpened inReady inPrinting answeredOf answered inAnswering obeyed heard hear afterSet taken takeSet enough spaced outOf errOf toTake takes afterTakes runs program
+unfolding reads figures commas two valueText contentText penText stepText commaed settingText drawText defineText filingText lineText normal write linesText textOf withinLimits asked valueOf lenOf sameValue defined isSome isSize isDirection drawing inPlace roomFor contentSound drawSound valueSound rules firstBroken unsoundAt find without used hasRoom stored names listing fits amount valueAt holds holdsTo allHold padded shows valueIn filled placed drawn setLines setOf commandsOf isNew draws isLast isText isPlain endsSet isSet isSetText wellFormed begin outcome done replied afterRefusal refuse openedWith recalled deleted filed inIdle checked collected onFinish inCollecting inSpoiled inOpened inReady inPrinting answeredOf answered inAnswering obeyed heard hear afterSet taken takeSet enough spaced outOf errOf toTake takes afterTakes runs program
 ran s = program narrow (bytes s)
 
 -- these texts on standard output and on standard error

@@ -11,7 +11,7 @@ use borrow.Author.Tests.{le-leb, leb-false, lt-leb, ne-eqb}
 use Rattle.paper.specs.Byte.{bytes, between, every, any, among, same, decimal}
 use Rattle.paper.specs.Line.{isDigit, quoted}
 use Rattle.paper.specs.Command.{Value, counter, variable, Content, text, shown, joined, Pen, black, flip, white, Draw, size, direction, put, bar, frame, Step, up, down, Define, counting, varying, draw, define, Filing, start, finish, inform, recall, delete, Command, empty, new, keep, file, ask, print, isShown, texts, contentRanges, settingRanges, drawRanges, defineRanges, isNameByte, isName, star, filingRanges, ranges}
-use Rattle.paper.specs.Write.{commas, two, valueText, contentText, penText, stepText, drawText, defineText, filingText, lineText, normal}
+use Rattle.paper.specs.Write.{commas, commaed, settingText, two, valueText, contentText, penText, stepText, drawText, defineText, filingText, lineText, normal}
 use Rattle.paper.proofs.Law.{and-right}
 use Rattle.paper.proofs.Text.{every-append, every-weaker, clear, clear-between, among-every, same-eq}
 use Rattle.paper.proofs.Test.{Passed, Held}
@@ -83,7 +83,7 @@ clear-name-or-star s e = go (isName s) refl
 
 -- the lines of each kind
 clear-draw : (width : ℕ) (d : Draw) → Held (drawRanges width d) → every clear (drawText d) ≡ true
-unfolding drawRanges settingRanges drawText commas bytes every
+unfolding drawRanges settingRanges drawText settingText commaed commas bytes every
 clear-draw width (size p₁ p₂) h = simp (every-append, clear-decimal)
 clear-draw width (direction d) h = rw (among-every clear (bytes "TB") d refl (h .0 .0))
 clear-draw width (put s c) h =

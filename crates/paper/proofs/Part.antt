@@ -3,7 +3,7 @@ use Prim.Native.Nat.{ℕ, zero, suc, _+_, _*_, _^_, _≤_, _<_}
 use Prim.Native.Char.{code}
 use mathlib.Core.Path.{_≡_, refl, sym, _∙_, ap}
 use mathlib.Core.Bool.{true}
-use mathlib.Core.List.{List, [], _∷_, _++_, append-nil}
+use mathlib.Core.List.{List, [], _∷_, _++_, append-nil, append-assoc}
 use native.Mathlib.Omega.{arith}
 use lib.ListN.{length, length-append}
 use Rattle.paper.specs.Byte.{bytes, if_then_else_, between, every, any, among, decimal}
@@ -44,6 +44,32 @@ pub before : {A B : Type 0} {p : Reader A} {a : A} {u : List ℕ} {k : ℕ} (nex
     → Back p a u k → Last (next a) b v m → Last (λ s. followed (part p s) next) b (u ++ (code "," ∷ v)) (k + suc m)
 unfolding followed part comma byte one if_then_else_ give
 before next {v = v} x y = record { reads = rw (x .reads (code "," ∷ v) refl) (y .reads); short = rw length-append (omega arith) }
+
+-- a text that a reader reads back whatever stands behind it
+pub record Head {A : Type 0} (p : Reader A) (a : A) (u : List ℕ) (k : ℕ) : Type 0 where
+  pub reads : (r : List ℕ) → p (u ++ r) ≡ got a r
+  pub short : length u ≤ k
+
+-- no part at all
+pub nothing : {A : Type 0} (a : A) → Head (give a) a [] 0
+unfolding give
+nothing a = record { reads = λ r. refl; short = omega arith }
+
+-- a part with its comma, and such a text
+pub ahead : {A B : Type 0} {p : Reader A} {a : A} {u : List ℕ} {k : ℕ} (next : A → Reader B) {b : B} {v : List ℕ} {m : ℕ}
+    → Back p a u k → Head (next a) b v m → Head (λ s. followed (part p s) next) b (u ++ (code "," ∷ v)) (k + suc m)
+unfolding followed part comma byte one if_then_else_ give
+ahead next {v = v} x y =
+    record {
+      reads = λ r. rw (append-assoc, x .reads (code "," ∷ (v ++ r)) refl) (y .reads r);
+      short = rw length-append (omega arith);
+    }
+
+-- such a text, and the rest of the line
+pub onward : {A B : Type 0} {p : Reader A} {a : A} {u : List ℕ} {k : ℕ} (next : A → Reader B) {b : B} {v : List ℕ} {m : ℕ}
+    → Head p a u k → Last (next a) b v m → Last (λ s. followed (p s) next) b (u ++ v) (k + m)
+unfolding followed
+onward next {v = v} x y = record { reads = rw (x .reads v) (y .reads); short = rw length-append (omega arith) }
 
 -- a number with at most k digits
 pub number-back : (k n : ℕ) → (1 ≤ k) × (n < 10 ^ k) × (n < 100000) → Back number n (decimal n) k

@@ -10,13 +10,13 @@ use lib.Dec.{leb}
 use borrow.Author.Tests.{leb-true}
 use Rattle.paper.specs.Byte.{bytes, if_then_else_, between, every, same, decimal}
 use Rattle.paper.specs.Line.{Reader, followed, give, ended, one, byte, comma, number, string, quoted}
-use Rattle.paper.specs.Command.{Content, Setting, Pen, black, flip, white, size, direction, put, bar, frame, Step, counting, varying, draw, define, Filing, start, finish, inform, recall, delete, Command, empty, new, keep, file, ask, print, texts, settingRanges, drawRanges, defineRanges, isNameByte, isName, star, filingRanges, ranges}
-use Rattle.paper.specs.Read.{sizeLine, directionLine, textLine, barLine, frameLine, counterLine, variableLine, nameLine, copiesOf, printLine, row, table, these, shaped, bodyShape, byRow, shape}
-use Rattle.paper.specs.Write.{commas, two, stepText, contentText, penText, drawText, defineText, filingText, lineText, normal}
+use Rattle.paper.specs.Command.{Content, Setting, Pen, black, flip, white, size, direction, put, bar, frame, Step, counting, varying, draw, define, Filing, start, finish, inform, recall, delete, Command, empty, new, keep, file, ask, print, texts, contentRanges, settingRanges, drawRanges, defineRanges, isNameByte, isName, star, filingRanges, ranges}
+use Rattle.paper.specs.Read.{setting, sizeLine, directionLine, textLine, barLine, frameLine, counterLine, variableLine, nameLine, copiesOf, printLine, row, table, these, shaped, bodyShape, byRow, shape}
+use Rattle.paper.specs.Write.{commas, two, commaed, settingText, stepText, contentText, penText, drawText, defineText, filingText, lineText, normal}
 use Rattle.paper.proofs.Law.{and-left, and-right}
 use Rattle.paper.proofs.Text.{same-eq}
-use Rattle.paper.proofs.Test.{Held, tests}
-use Rattle.paper.proofs.Part.{Back, Last, ends, last, closing, before, number-back, number-below, digit-back, two-back, string-back, letter-back, font-back, step-back, content-last, orElse-bad}
+use Rattle.paper.proofs.Test.{Held, held-left, held-right, tests}
+use Rattle.paper.proofs.Part.{Back, Last, Head, nothing, ahead, onward, ends, last, closing, before, number-back, number-below, digit-back, two-back, string-back, letter-back, font-back, step-back, content-last, orElse-bad}
 
 -- `Q`: two numbers
 size-last : (width p₁ p₂ : ℕ) → Held (drawRanges width (size p₁ p₂))
@@ -30,21 +30,24 @@ direction-last : (width d : ℕ) → Held (drawRanges width (direction d)) → L
 unfolding directionLine drawRanges every between bytes
 direction-last width d h = closing _ (last (letter-back (bytes "TB") d refl (h .0 .0)))
 
--- `A`: seven parameters and the content; x has no more digits than the width allows
-put-last : (width : ℕ) (s : Setting) (c : Content) → width ≤ 10000 → Held (drawRanges width (put s c))
-    → Last textLine (keep (draw (put s c)))
-    (commas (decimal (s .x) ∷ decimal (s .y) ∷ decimal (s .r) ∷ decimal (s .f) ∷ decimal (s .h) ∷ decimal (s .v) ∷ (s .m ∷ []) ∷ contentText c ∷ []))
-    (length (decimal (width - 1)) + 223)
-unfolding textLine commas drawRanges settingRanges every between bytes
-put-last width s c w h =
-    before _ (number-below (width - 1) (s .x) (omega tests) (omega tests))
-    (before _ (number-back 4 (s .y) (omega tests))
-    (before _ (number-back 1 (s .r) (omega tests))
-    (before _ (font-back 1 (s .f) (omega tests))
-    (before _ (number-back 2 (s .h) (omega tests))
-    (before _ (number-back 2 (s .v) (omega tests))
-    (before _ (letter-back (bytes "NR") (s .m) refl (h .1 .1 .1 .1 .1 .1 .0 .0))
-    (closing _ (content-last c (h .1 .1 .1 .1 .1 .1 .1)))))))))
+-- the seven parameters of an `A`; x has no more digits than the width allows
+pub setting-head : (width : ℕ) (s : Setting) → width ≤ 10000 → Held (settingRanges width s)
+    → Head setting s (settingText s) (length (decimal (width - 1)) + 18)
+unfolding setting settingText commaed settingRanges every between bytes
+setting-head width s w h =
+    ahead _ (number-below (width - 1) (s .x) (omega tests) (omega tests))
+    (ahead _ (number-back 4 (s .y) (omega tests))
+    (ahead _ (number-back 1 (s .r) (omega tests))
+    (ahead _ (font-back 1 (s .f) (omega tests))
+    (ahead _ (number-back 2 (s .h) (omega tests))
+    (ahead _ (number-back 2 (s .v) (omega tests))
+    (ahead _ (letter-back (bytes "NR") (s .m) refl (h .1 .1 .1 .1 .1 .1 .0 .0)) (nothing s)))))))
+
+-- `A`: these, and the content
+put-last : (width : ℕ) (s : Setting) (c : Content) → width ≤ 10000 → Held (settingRanges width s) → Held (contentRanges c)
+    → Last textLine (keep (draw (put s c))) (settingText s ++ contentText c) (length (decimal (width - 1)) + 18 + 205)
+unfolding textLine
+put-last width s c w h k = onward _ (setting-head width s w h) (closing _ (content-last c k))
 
 -- `LO`, `LE` and `LW`: four numbers
 bar-last : (width : ℕ) (pen : Pen) (x y w t : ℕ) → width ≤ 10000 → Held (drawRanges width (bar pen x y w t))
@@ -136,12 +139,15 @@ by-letters letters c most x e row l =
 
 -- every command in range has such a normal form
 pub fine : (width : ℕ) (c : Command) → width ≤ 10000 → Held (ranges width c) → Fine c (224 + length (decimal (width - 1)))
-unfolding ranges filingRanges normal lineText drawText defineText filingText penText bytes shape byRow table row these byte one ended followed give if_then_else_ bodyShape every
+unfolding ranges drawRanges filingRanges normal lineText drawText defineText filingText penText bytes shape byRow table row these byte one ended followed give if_then_else_ bodyShape every
 fine width empty w h = record { reads = refl; short = omega arith }
 fine width new w h = record { reads = refl; short = omega arith }
 fine width (keep (draw (size p₁ p₂))) w h = by-letters (bytes "Q") _ _ (size-last width p₁ p₂ h) refl refl (omega arith)
 fine width (keep (draw (direction d))) w h = by-letters (bytes "Z") _ _ (direction-last width d h) refl refl (omega arith)
-fine width (keep (draw (put s c))) w h = by-letters (bytes "A") _ _ (put-last width s c w h) refl refl (omega arith)
+fine width (keep (draw (put s c))) w h =
+    let first = held-left (settingRanges width s) (contentRanges c) h in
+    let second = held-right (settingRanges width s) (contentRanges c) h in
+    by-letters (bytes "A") _ _ (put-last width s c w first second) refl refl (omega arith)
 fine width (keep (draw (bar black x y d t))) w h =
     by-letters (bytes "LO") _ _ (bar-last width black x y d t w h) refl refl (omega arith)
 fine width (keep (draw (bar flip x y d t))) w h =

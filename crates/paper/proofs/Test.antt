@@ -1,7 +1,7 @@
 -- Laws of tests: lists of tests one by one, what a test says of numbers, and a case for each answer of a test.
 use mathlib.Core.Path.{_≡_, refl, sym}
 use mathlib.Core.Bool.{Bool, true, false, true≢false, false≢true}
-use mathlib.Core.List.{List, [], _∷_}
+use mathlib.Core.List.{List, [], _∷_, _++_}
 use native.Mathlib.Omega.{arith}
 use borrow.Author.Tests.{leb-true, leb-false, ltb-true, ltb-false, eqb-true, lt-ltb, le-leb}
 use Rattle.paper.specs.Command.{all, allOf}
@@ -28,6 +28,15 @@ pub held : (ps : List (List Bool)) → allOf ps ≡ true → Held ps
 unfolding allOf
 held [] e = tt
 held (p ∷ ps) e = (passed p (and-left (all p) _ e), held ps (and-right (all p) _ e))
+
+-- two lists put together
+pub held-left : (ps qs : List (List Bool)) → Held (ps ++ qs) → Held ps
+held-left [] qs h = tt
+held-left (p ∷ ps) qs h = (h .0, held-left ps qs (h .1))
+
+pub held-right : (ps qs : List (List Bool)) → Held (ps ++ qs) → Held qs
+held-right [] qs h = h
+held-right (p ∷ ps) qs h = held-right ps qs (h .1)
 
 -- omega with tests read as facts
 pub ruleset tests = (arith, leb-true, leb-false, ltb-true, ltb-false, eqb-true, lt-ltb, le-leb)

@@ -45,6 +45,18 @@ behind s = orElse (ended (text s)) (value >>= λ v. give (joined s v))
 unfoldable pub content : Reader Content
 content = orElse (string >>= behind) (value >>= λ v. give (shown v))
 
+-- the seven parameters of an `A` before its content, each with its comma
+unfoldable pub setting : Reader Setting
+setting = do
+  x ← part number
+  y ← part number
+  r ← part number
+  f ← part font
+  h ← part number
+  v ← part number
+  m ← part letter
+  give (record { x = x; y = y; r = r; f = f; h = h; v = v; m = m })
+
 -- the parts behind the leading letters of each line of the table
 
 -- `Q`: two lengths
@@ -63,15 +75,9 @@ directionLine = do
 -- `A`: seven parameters and the content
 unfoldable pub textLine : Reader Command
 textLine = do
-  x ← part number
-  y ← part number
-  r ← part number
-  f ← part font
-  h ← part number
-  v ← part number
-  m ← part letter
+  s ← setting
   c ← content
-  ended (keep (draw (put (record { x = x; y = y; r = r; f = f; h = h; v = v; m = m }) c)))
+  ended (keep (draw (put s c)))
 
 -- `LO`, `LE`, `LW`: a place, a width and a height
 unfoldable pub barLine : Pen → Reader Command

@@ -36,13 +36,15 @@ unfoldable pub stepText : Step → List ℕ
 stepText (up n) = bytes "+" ++ decimal n
 stepText (down n) = bytes "-" ++ decimal n
 
--- the drawing lines
-unfoldable pub drawText : Draw → List ℕ
-drawText (size p₁ p₂) = bytes "Q" ++ commas (decimal p₁ ∷ decimal p₂ ∷ [])
-drawText (direction d) = bytes "Z" ++ (d ∷ [])
-drawText (put s content) =
-    bytes "A"
-    ++ commas
+-- parts with a comma behind each
+unfoldable pub commaed : List (List ℕ) → List ℕ
+commaed [] = []
+commaed (part ∷ more) = part ++ (code "," ∷ commaed more)
+
+-- the seven parameters of an `A` before its content
+unfoldable pub settingText : Setting → List ℕ
+settingText s =
+    commaed
     (decimal (s .x)
     ∷ decimal (s .y)
     ∷ decimal (s .r)
@@ -50,8 +52,13 @@ drawText (put s content) =
     ∷ decimal (s .h)
     ∷ decimal (s .v)
     ∷ (s .m ∷ [])
-    ∷ contentText content
     ∷ [])
+
+-- the drawing lines
+unfoldable pub drawText : Draw → List ℕ
+drawText (size p₁ p₂) = bytes "Q" ++ commas (decimal p₁ ∷ decimal p₂ ∷ [])
+drawText (direction d) = bytes "Z" ++ (d ∷ [])
+drawText (put s content) = bytes "A" ++ (settingText s ++ contentText content)
 drawText (bar pen x y w t) = penText pen ++ commas (decimal x ∷ decimal y ∷ decimal w ∷ decimal t ∷ [])
 drawText (frame x₁ y₁ t x₂ y₂) =
     bytes "X" ++ commas (decimal x₁ ∷ decimal y₁ ∷ decimal t ∷ decimal x₂ ∷ decimal y₂ ∷ [])

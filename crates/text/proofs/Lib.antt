@@ -1,0 +1,5 @@
+pub mod Place
+pub mod Digits
+pub mod Quote
+pub mod Written
+pub mod Content

@@ -1,0 +1,15 @@
+-- Writing into a lent buffer: which bytes stand where, and that no other byte changes.
+use Prim.Native.Nat.{ℕ, _+_, _≤_}
+use mathlib.Core.Path.{_≡_}
+use mathlib.Core.List.{List, _++_}
+use lib.ListN.{length, take, drop}
+
+-- a buffer after some bytes were written at a place
+unfoldable pub written : List ℕ → ℕ → List ℕ → List ℕ
+written old at bytes = take at old ++ bytes ++ drop (at + length bytes) old
+
+-- bytes were written from a place up to the next, within the buffer, and nothing else was touched
+pub record Writes (old : List ℕ) (at : ℕ) (bytes : List ℕ) (new : List ℕ) (next : ℕ) : Type 0 where
+  pub ends : next ≡ at + length bytes
+  pub room : next ≤ length old
+  pub is : new ≡ written old at bytes

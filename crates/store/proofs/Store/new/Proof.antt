@@ -1,0 +1,9 @@
+-- An empty store is all zeros.
+use borrow.Author.Needs.{needs}
+use Rattle.store.specs.Packed.{packed, padded, textsOf, namesOf}
+use Rattle.store.proofs.Store.new.Statement.{statement}
+use Rattle.store.proofs.Store.new.Tie as tie
+
+pub new-spec : {M : Type 1} → statement M
+unfolding packed padded textsOf namesOf
+new-spec = tie.close (tie.spec (λ c. search needs))

@@ -1,0 +1,86 @@
+-- Tests that every byte of a line passes: as the code walks over the line, and for the strings that stand in it.
+use Prim.Native.Nat.{ℕ, zero, suc, _+_, _≤_, _<_}
+use mathlib.Core.Path.{_≡_, refl, _∙_}
+use mathlib.Core.Bool.{Bool, true, _||_, or-true}
+use mathlib.Core.List.{List, [], _∷_, _++_}
+use native.Mathlib.Omega.{arith}
+use native.Mathlib.Numerals.{add-one}
+use native.Mathlib.Decide.{decLt}
+use lib.ListN.{length, take, drop, getD, drop-of-length-le, take-append-drop}
+use lib.Seq.{drop-cons}
+use lib.Dec.{eqb, ltb}
+use borrow.Author.Tests.{le-leb, lt-ltb}
+use Rattle.paper.specs.Byte.{between, every, any}
+use Rattle.paper.specs.Line.{quote, backslash, escape, control}
+use Rattle.paper.specs.Command.{isShown}
+use Rattle.paper.proofs.Law.{and-left, and-right, and-both, by-test}
+use Rattle.text.specs.Place.{textAt, Closes, literal}
+use Rattle.text.specs.declared.read.Span.{Span}
+use Rattle.text.proofs.Content.{Steps, closes-steps, closes-escape}
+use Rattle.line.specs.View.{textIn, Standing}
+
+-- only the empty text is written as nothing
+escape-none : (x : List ℕ) → escape x ≡ [] → x ≡ []
+unfolding escape
+escape-none [] e = refl
+escape-none (b ∷ x) e =
+    by-test (λ t. t ≡ [] → b ∷ x ≡ []) (eqb b quote || eqb b backslash) (backslash ∷ b ∷ escape x) (b ∷ escape x) (λ _ q. cc) (λ _ q. cc) e
+
+-- at its closing quote a string has no content
+pub text-ends : (s : List ℕ) (i end : ℕ) → Closes s i end → end ≤ i → textAt s i ≡ []
+text-ends s i end h l = escape-none (textAt s i) (closes-escape s i end h l)
+
+-- a byte of a text that passes a test passes it
+every-at : (test : ℕ → Bool) (s : List ℕ) (i : ℕ) → every test s ≡ true → i < length s → test (getD s i 0) ≡ true
+unfolding every
+every-at test [] i e h = absurd (omega arith)
+every-at test (b ∷ s) zero e h = and-left (test b) (every test s) e
+every-at test (b ∷ s) (suc i) e h = every-at test s i (and-right (test b) (every test s) e) (omega arith)
+
+-- a string that closes in a line that passes a test passes it, from any place at most so many bytes before its end
+closes-every : (test : ℕ → Bool) (s : List ℕ) (end n i : ℕ) → every test s ≡ true → Closes s i end → end ≤ i + n → every test (textAt s i) ≡ true
+unfolding every
+closes-every test s end zero i e h l = rw (text-ends s i end h (omega arith))
+closes-every test s end (suc n) i e h l =
+    elim (decLt i end) [
+      | yes k ↦ goes (closes-steps s i end (literal s i) h k refl) (closes-every test s end n (literal s i + 1) e)
+      | no k ↦ rw (text-ends s i end h (omega arith))
+    ]
+  where
+    goes : Steps s i end (literal s i) → (Closes s (literal s i + 1) end → end ≤ literal s i + 1 + n → every test (textAt s (literal s i + 1)) ≡ true) → every test (textAt s i) ≡ true
+    goes step ih =
+        rw (step .content)
+        (and-both (test (getD s (literal s i) 0)) (every test (textAt s (literal s i + 1)))
+        (every-at test s (literal s i) e (omega (arith, h .inside, step .inside)))
+        (ih (step .left) (omega (arith, step .onward))))
+
+-- a string that stands in a line that passes a test passes it
+pub standing-every : (test : ℕ → Bool) (s : List ℕ) (string : Span) → Standing s string → every test s ≡ true → every test (textIn s string) ≡ true
+unfolding textIn
+standing-every test s string h e = closes-every test s (string .end) (string .end) (string .start) e (h .closes) (omega arith)
+
+-- a string that stands in a shown line is shown
+pub standing-shown : (s : List ℕ) (string : Span) → Standing s string → every isShown s ≡ true → every isShown (textIn s string) ≡ true
+standing-shown s string h e = standing-every isShown s string h e
+
+-- the walk over a line's bytes: one more is shown
+pub shown-turns : (s : List ℕ) (i : ℕ) → every isShown s ≡ every isShown (drop i s) → i < length s → 32 ≤ getD s i 0 → getD s i 0 < 256 → every isShown s ≡ every isShown (drop (i + 1) s)
+unfolding every isShown between
+shown-turns s i e h low high =
+    e ∙ rw (drop-cons s i 0 h, add-one, le-leb 32 (getD s i 0) low, le-leb (getD s i 0) 255 (omega arith))
+
+-- all are shown
+pub shown-ends : (s : List ℕ) (i : ℕ) → every isShown s ≡ every isShown (drop i s) → length s ≤ i → every isShown s ≡ true
+unfolding every
+shown-ends s i e h = e ∙ rw (drop-of-length-le s {i = i} h)
+
+-- a byte below 20H behind others is a control byte of the whole
+control-behind : (x : List ℕ) (b : ℕ) (y : List ℕ) → ltb b 0x20 ≡ true → control (x ++ (b ∷ y)) ≡ true
+unfolding control any
+control-behind [] b y e = rw e
+control-behind (c ∷ x) b y e = rw (control-behind x b y e) (or-true (ltb c 0x20))
+
+-- a byte below 20H makes the line one with a control byte
+pub control-here : (s : List ℕ) (i : ℕ) → i < length s → getD s i 0 < 32 → control s ≡ true
+control-here s i h low =
+    rw (← take-append-drop i s, drop-cons s i 0 h) (control-behind (take i s) (getD s i 0) (drop (suc i) s) (lt-ltb (getD s i 0) 32 low))

@@ -1,0 +1,9 @@
+pub mod Letters
+pub mod Held
+pub mod Judge
+pub mod Name
+pub mod Chain
+pub mod Item
+pub mod Given
+pub mod Family
+pub mod Whole

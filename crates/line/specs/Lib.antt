@@ -1,0 +1,5 @@
+pub mod Kind
+pub mod View
+pub mod Part
+pub mod Given
+pub mod Family

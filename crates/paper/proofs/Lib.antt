@@ -11,6 +11,7 @@ pub mod Split
 pub mod Counter
 pub mod Store
 pub mod Invariant
+pub mod Long
 pub mod Shown
 pub mod Filled
 pub mod SetOf

@@ -6,9 +6,11 @@ use native.Mathlib.Omega.{arith}
 use native.Mathlib.Numerals.{add-one}
 use lib.ListN.{length, take, drop, getD, replicate, length-append, length-take, length-replicate, length-map, List·getD-append, List·getD-map}
 use lib.Seq.{drop-cons, take-suc, take-append-seam, drop-append-add, take-nil}
-use Rattle.store.specs.Packed.{Entry, entry, padded, slot, textsOf, namesOf, packed, nameIn, partOf, Short, Kept}
+use Rattle.store.specs.Packed.{Entry, entry, slot, textsOf, namesOf, packed, nameIn, partOf, Short, Kept}
 use Rattle.store.specs.declared.Store.{Store}
-use Rattle.store.proofs.Packing.{filled, slot-length, texts-more}
+use Rattle.store.proofs.Packing.{slot-length, texts-more}
+use Rattle.text.specs.Write.{padded}
+use Rattle.text.proofs.Padded.{filled}
 
 -- the form at a number
 unfoldable pub formAt : List Entry → ℕ → Entry

@@ -1,10 +1,11 @@
 -- A store's memory as a function of the forms that it holds: names and texts one behind the other, and 0 behind them.
-use Prim.Native.Nat.{ℕ, suc, _+_, _-_, _*_, _≤_}
+use Prim.Native.Nat.{ℕ, suc, _+_, _*_, _≤_}
 use mathlib.Core.List.{List, [], _∷_, _++_, map}
 use lib.ListN.{length, take, drop, replicate}
 use mathlib.Core.Path.{_≡_}
 use Rattle.paper.specs.Byte.{bytes, if_then_else_, same}
 use Rattle.paper.specs.Line.{lf}
+use Rattle.text.specs.Write.{padded}
 use Rattle.store.specs.declared.Store.{Store}
 use Rattle.store.specs.declared.Found.{Found}
 use Rattle.store.specs.declared.Found.the-variants.{At, Absent}
@@ -16,10 +17,6 @@ pub record Entry : Type 0 where
 
 unfoldable pub entry : List ℕ → List ℕ → Entry
 entry name text = record { name = name; text = text }
-
--- a list with zeros behind it, up to a length
-unfoldable pub padded : ℕ → List ℕ → List ℕ
-padded size xs = xs ++ replicate (size - length xs) 0
 
 -- the texts, one behind the other
 unfoldable pub textsOf : List Entry → List ℕ

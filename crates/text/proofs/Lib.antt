@@ -3,3 +3,4 @@ pub mod Digits
 pub mod Quote
 pub mod Written
 pub mod Content
+pub mod Padded

@@ -1,8 +1,8 @@
 -- Writing into a lent buffer: which bytes stand where, and that no other byte changes.
-use Prim.Native.Nat.{ℕ, _+_, _≤_}
+use Prim.Native.Nat.{ℕ, _+_, _-_, _≤_}
 use mathlib.Core.Path.{_≡_}
 use mathlib.Core.List.{List, _++_}
-use lib.ListN.{length, take, drop}
+use lib.ListN.{length, take, drop, replicate}
 
 -- a buffer after some bytes were written at a place
 unfoldable pub written : List ℕ → ℕ → List ℕ → List ℕ
@@ -13,3 +13,7 @@ pub record Writes (old : List ℕ) (at : ℕ) (bytes : List ℕ) (new : List ℕ
   pub ends : next ≡ at + length bytes
   pub room : next ≤ length old
   pub is : new ≡ written old at bytes
+
+-- a list with zeros behind it, up to a length: what memory holds that was filled from the front
+unfoldable pub padded : ℕ → List ℕ → List ℕ
+padded size xs = xs ++ replicate (size - length xs) 0

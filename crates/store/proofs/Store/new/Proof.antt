@@ -1,6 +1,7 @@
 -- An empty store is all zeros.
 use borrow.Author.Needs.{needs}
-use Rattle.store.specs.Packed.{packed, padded, textsOf, namesOf}
+use Rattle.store.specs.Packed.{packed, textsOf, namesOf}
+use Rattle.text.specs.Write.{padded}
 use Rattle.store.proofs.Store.new.Statement.{statement}
 use Rattle.store.proofs.Store.new.Tie as tie
 

@@ -1,0 +1,138 @@
+-- Input byte by byte: what is left to take in, behind the bytes that wait, gives what the whole gives.
+use mathlib.Core.Path.{_≡_, refl, sym, _∙_, ap}
+use mathlib.Core.Bool.{true, false, _||_}
+use mathlib.Core.List.{List, [], _∷_, _++_}
+use Prim.Native.Nat.{ℕ, suc, _+_, _≤_, _<_}
+use native.Mathlib.Omega.{arith}
+use native.Mathlib.Numerals.{add-one}
+use lib.ListN.{length, take, drop, set, getD, length-append, length-take, drop-of-length-le}
+use lib.Seq.{drop-cons, take-all, take-append-le}
+use lib.Dec.{eqb}
+use borrow.Author.Tests.{eq-eqb, ne-eqb}
+use Rattle.paper.specs.Byte.{if_then_else_}
+use Rattle.paper.specs.Line.{lf, isDropped}
+use Rattle.paper.proofs.Law.{if-true, if-false}
+use Rattle.text.specs.Place.{from}
+use Rattle.text.specs.Write.{padded}
+use Rattle.text.proofs.Padded.{padded-set}
+use Rattle.intake.specs.Waiting.{held, Piece, line, waits, feed, Feeds}
+use Rattle.intake.specs.declared.Intake.{Intake}
+use Rattle.intake.specs.declared.Fed.{Fed}
+
+-- as many bytes are kept as wait, up to 257
+kept-len : (self : Intake) (w : List ℕ) → self ≡ held w → self .len ≡ length (take 257 w)
+unfolding held
+kept-len self w e = ap (λ s. s .len) e
+
+-- one byte more, over a variable bound
+take-more : (n : ℕ) (w : List ℕ) (b : ℕ) → length w < n → take n (w ++ (b ∷ [])) ≡ take n w ++ (b ∷ [])
+take-more n w b h = take-all n (w ++ (b ∷ [])) (rw length-append (omega arith)) ∙ rw (take-all n w (omega arith))
+
+held-more : (w : List ℕ) (b : ℕ) → length w < 257
+    → record { bytes = set (padded 257 (take 257 w)) (length (take 257 w)) b; len = length (take 257 w) + 1 } ≡ held (w ++ (b ∷ []))
+unfolding held
+held-more w b h =
+    let all : take 257 w ≡ w = take-all 257 w (omega arith) in
+    let more : take 257 (w ++ (b ∷ [])) ≡ take 257 w ++ (b ∷ []) = take-more 257 w b h in
+    let bytes : set (padded 257 (take 257 w)) (length (take 257 w)) b ≡ padded 257 (take 257 (w ++ (b ∷ []))) =
+    padded-set 257 (take 257 w) b (rw all h) ∙ rw more in
+    let len : length (take 257 w) + 1 ≡ length (take 257 (w ++ (b ∷ []))) = rw (more, length-append) in
+    λ i. record { bytes = bytes i; len = len i }
+
+-- a byte joins those that wait, or is let go where 257 wait already
+pub joins : (self : Intake) (b : ℕ) → self .len < 257
+    → (w : List ℕ) → self ≡ held w → record { bytes = set (self .bytes) (self .len) b; len = self .len + 1 } ≡ held (w ++ (b ∷ []))
+unfolding held
+joins self b h w e =
+    let few : length w < 257 = omega (arith, kept-len self w e, length-take 257 w) in
+    rw e (held-more w b few)
+
+pub stays : (self : Intake) (b : ℕ) → 257 ≤ self .len → (w : List ℕ) → self ≡ held w → self ≡ held (w ++ (b ∷ []))
+unfolding held
+stays self b h w e =
+    let many : 257 ≤ length w = omega (arith, kept-len self w e, length-take 257 w) in
+    e ∙ rw (take-append-le 257 w (b ∷ []) many)
+
+-- some bytes wait, and what is left to take in gives what the whole gives
+pub record Going (input : List ℕ) (whole : Piece) (intake : Intake) (i : ℕ) : Type 0 where
+  pub waiting : List ℕ
+  pub is : intake ≡ held waiting
+  pub left : whole ≡ feed waiting (from input i)
+
+-- the input from a place on, by the byte there
+ahead : (input : List ℕ) (i : ℕ) → i < length input → from input i ≡ getD input i 0 ∷ from input (i + 1)
+unfolding from
+ahead input i h = rw (add-one) (drop-cons input i 0 h)
+
+-- so it is whatever waited at the start
+pub record Goes (input : List ℕ) (at : ℕ) (first intake : Intake) (i : ℕ) : Type 0 where
+  pub inside : i ≤ length input
+  pub go : (w : List ℕ) → first ≡ held w → Going input (feed w (from input at)) intake i
+
+pub goes-begins : (input : List ℕ) (at : ℕ) (first : Intake) → at ≤ length input → Goes input at first first at
+goes-begins input at first h = record { inside = h; go = λ w e. record { waiting = w; is = e; left = refl } }
+
+-- a line ends
+pub goes-line : (input : List ℕ) (at : ℕ) (first intake : Intake) (i : ℕ) → Goes input at first intake i → i < length input → getD input i 0 ≡ 10
+    → (w : List ℕ) → first ≡ held w → Feeds input (feed w (from input at)) (record { intake = intake; next = i + 1; ended = true })
+unfolding feed Feeds if_then_else_
+goes-line input at first intake i g h b w e =
+    let now′ = g .go w e in
+    let is : feed w (from input at) ≡ line (now′ .waiting) (from input (i + 1)) =
+    now′ .left ∙ rw (ahead input i h, b) in
+    rw is (now′ .is, refl, refl, omega arith)
+
+-- a byte is dropped
+drops : (input : List ℕ) (at : ℕ) (first intake : Intake) (i : ℕ) → Goes input at first intake i → i < length input
+    → (getD input i 0 ≡ 10 → ⊥) → isDropped (getD input i 0) ≡ true → Goes input at first intake (i + 1)
+unfolding feed
+drops input at first intake i g h n d =
+    record {
+      inside = omega arith;
+      go = λ w e.
+          let now′ = g .go w e in
+          record {
+            waiting = now′ .waiting;
+            is = now′ .is;
+            left = now′ .left ∙ rw (ahead input i h) (if-false _ _ _ (ne-eqb (getD input i 0) 10 n) ∙ if-true _ _ _ d);
+          };
+    }
+
+pub goes-return : (input : List ℕ) (at : ℕ) (first intake : Intake) (i : ℕ) → Goes input at first intake i → i < length input
+    → (getD input i 0 ≡ 10 → ⊥) → getD input i 0 ≡ 13 → Goes input at first intake (i + 1)
+unfolding isDropped
+goes-return input at first intake i g h n b = drops input at first intake i g h n (rw b)
+
+pub goes-end-sign : (input : List ℕ) (at : ℕ) (first intake : Intake) (i : ℕ) → Goes input at first intake i → i < length input
+    → (getD input i 0 ≡ 10 → ⊥) → getD input i 0 ≡ 26 → Goes input at first intake (i + 1)
+unfolding isDropped
+goes-end-sign input at first intake i g h n b = drops input at first intake i g h n (rw b)
+
+-- a byte joins the line
+pub goes-on : (input : List ℕ) (at : ℕ) (first intake r : Intake) (i : ℕ) → Goes input at first intake i → i < length input
+    → (getD input i 0 ≡ 10 → ⊥) → (getD input i 0 ≡ 13 → ⊥) → (getD input i 0 ≡ 26 → ⊥)
+    → ((w : List ℕ) → intake ≡ held w → r ≡ held (w ++ (getD input i 0 ∷ []))) → Goes input at first r (i + 1)
+unfolding feed isDropped
+goes-on input at first intake r i g h n m k more =
+    record {
+      inside = omega arith;
+      go = λ w e.
+          let now′ = g .go w e in
+          record {
+            waiting = now′ .waiting ++ (getD input i 0 ∷ []);
+            is = more (now′ .waiting) (now′ .is);
+            left = now′ .left
+                ∙ rw (ahead input i h)
+                (if-false _ _ _ (ne-eqb (getD input i 0) 10 n)
+                ∙ if-false _ _ _ (rw (ne-eqb (getD input i 0) 13 m, ne-eqb (getD input i 0) 26 k)));
+          };
+    }
+
+-- the piece ends
+pub goes-waits : (input : List ℕ) (at : ℕ) (first intake : Intake) (i : ℕ) → Goes input at first intake i → length input ≤ i
+    → (w : List ℕ) → first ≡ held w → Feeds input (feed w (from input at)) (record { intake = intake; next = i; ended = false })
+unfolding feed Feeds from
+goes-waits input at first intake i g h w e =
+    let now′ = g .go w e in
+    let is : feed w (from input at) ≡ waits (now′ .waiting) = now′ .left ∙ rw (drop-of-length-le input {i = i} h) in
+    rw is (now′ .is, refl, omega (arith, g .inside))

@@ -1,0 +1,55 @@
+-- Of a line that is too long its first 257 bytes tell all that the bench says of it.
+use Prim.Native.Nat.{ℕ, _≤_, _<_}
+use mathlib.Core.Path.{_≡_, refl, sym, _∙_, ap}
+use mathlib.Core.Bool.{true, false}
+use mathlib.Core.List.{List}
+use native.Mathlib.Omega.{arith}
+use lib.ListN.{length, take, length-take}
+use lib.Seq.{take-all}
+use borrow.Author.Tests.{ltb-true, ltb-false, lt-ltb}
+use Rattle.paper.specs.Byte.{if_then_else_}
+use Rattle.paper.specs.Line.{long}
+use Rattle.paper.specs.Command.{FormLine}
+use Rattle.paper.specs.Form.{Form}
+use Rattle.paper.specs.Read.{read}
+use Rattle.paper.specs.Bench.{Session, idle, collecting, spoiled, opened, answering, ready, printing, Bench, inAnswering, heard, hear}
+use Rattle.paper.proofs.Law.{if-true}
+use Rattle.paper.proofs.Test.{either}
+
+-- a long line is long in its first 257 bytes
+first-long : (s : List ℕ) → long s ≡ true → long (take 257 s) ≡ true
+unfolding long
+first-long s e = lt-ltb 256 (length (take 257 s)) (omega (arith, length-take 257 s, ltb-true 256 (length s) e))
+
+-- another is the same
+first-all : (s : List ℕ) → long s ≡ false → take 257 s ≡ s
+unfolding long
+first-all s e = take-all 257 s (omega (arith, ltb-false 256 (length s) e))
+
+-- what depends on a long line only by its being long
+read-first : (width : ℕ) (s : List ℕ) → read width (take 257 s) ≡ read width s
+unfolding read
+read-first width s =
+    either (long s) (λ y. if-true _ _ _ (first-long s y) ∙ sym (if-true _ _ _ y)) (λ n. rw (first-all s n))
+
+answer-first : (forms : List Form) (ls : List FormLine) (answers : List (List ℕ)) (s : List ℕ)
+    → inAnswering forms ls answers (take 257 s) ≡ inAnswering forms ls answers s
+unfolding inAnswering
+answer-first forms ls answers s =
+    either (long s) (λ y. if-true _ _ _ (first-long s y) ∙ sym (if-true _ _ _ y)) (λ n. rw (first-all s n))
+
+heard-first : (width room : ℕ) (forms : List Form) (session : Session) (s : List ℕ)
+    → heard width room forms session (take 257 s) ≡ heard width room forms session s
+unfolding heard
+heard-first width room forms idle s = rw (read-first width s)
+heard-first width room forms (collecting name ls) s = rw (read-first width s)
+heard-first width room forms spoiled s = rw (read-first width s)
+heard-first width room forms (opened ls) s = rw (read-first width s)
+heard-first width room forms (answering ls answers) s = answer-first forms ls answers s
+heard-first width room forms (ready ls answers) s = rw (read-first width s)
+heard-first width room forms (printing ls answers n c i) s = rw (read-first width s)
+
+-- in every state the first 257 bytes of a line are heard as the line
+pub hear-first : (width room : ℕ) (b : Bench) (s : List ℕ) → hear width room b (take 257 s) ≡ hear width room b s
+unfolding hear
+hear-first width room b s = heard-first width room (b .forms) (b .session) s

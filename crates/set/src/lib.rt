@@ -1,0 +1,2 @@
+// Print sets: what each value shows, and one set into a buffer.
+pub mod count;

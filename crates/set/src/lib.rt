@@ -1,2 +1,3 @@
 // Print sets: what each value shows, and one set into a buffer.
 pub mod count;
+pub mod fill;

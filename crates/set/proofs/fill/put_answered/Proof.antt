@@ -1,0 +1,15 @@
+-- Three pieces, one behind the other.
+use Rattle.set.proofs.Filling.{first-room, next-room, last-room, three-pieces}
+use borrow.Author.Needs.{needs}
+use Rattle.set.proofs.fill.put_answered.Statement.{statement}
+use Rattle.set.proofs.fill.put_answered.Tie as tie
+
+pub put-answered-spec : {M : Type 1} → statement M
+put-answered-spec =
+    tie.close
+    (tie.spec
+    (λ c κs. search first-room)
+    (λ c κs. search next-room)
+    (λ c κs. search last-room)
+    (λ c. search needs)
+    (λ c. search three-pieces))

@@ -23,7 +23,7 @@ use Rattle.text.specs.declared.read.Number.the-variants.{Value, Bad}
 use Rattle.text.specs.declared.read.Span.{Span}
 use Rattle.text.specs.declared.read.Quoted.{Quoted}
 use Rattle.text.specs.declared.read.Quoted.the-variants.{Held, Missing}
-use Rattle.line.specs.View.{width, refusalOf, viewOf, Stand, Standing, textIn, stepOf, settingOf, contentOf, ContentStands}
+use Rattle.line.specs.View.{width, refusalOf, viewOf, Stand, Standing, textIn, stepOf, settingOf, contentOf, Holds, ContentStands, ContentShown}
 use Rattle.line.specs.Part.{saidSetting, saidStep, saidContent, Found, ReadsContent, lastString, EndsAs, LastAt}
 use Rattle.line.specs.Given.{Gives}
 use Rattle.line.specs.declared.command.Content.{Content}
@@ -39,7 +39,8 @@ use Rattle.line.specs.declared.parts.StepRead.the-variants as S
 use Rattle.line.specs.declared.parts.ContentRead.{ContentRead}
 use Rattle.line.specs.declared.parts.ContentRead.the-variants as C
 use Rattle.line.proofs.Chain.{number-got, number-bad}
-use Rattle.line.proofs.Held.{standing-shown}
+use Rattle.line.proofs.Judge.{put-ranges}
+use Rattle.line.proofs.Held.{standing-shown, content-shown}
 
 -- what does not fit is malformed
 gives-bad : (s : List ℕ) (g : Got P.Command) → g ≡ bad → Gives s g (Refused Malformed)
@@ -129,6 +130,10 @@ pub content-stands : (s : List ℕ) (g : Got P.Content) (a : ContentRead) (t : C
 unfolding Found
 content-stands s g a t next h e = rw e at (h .stands)
 
+-- and in a shown line it is shown
+pub content-told : (s : List ℕ) (g : Got P.Content) (a : ContentRead) (t : Content) (next : ℕ) → ReadsContent s g a → a ≡ C.Value t next → every isShown s ≡ true → ContentShown s t
+content-told s g a t next h e k = content-shown s t (content-stands s g a t next h e) k
+
 -- the string that a line ends with
 ends-as : (s : List ℕ) (at : ℕ) (q : Quoted) (span : Span) → LastAt s at q → q ≡ Held span → EndsAs s at span
 unfolding LastAt
@@ -162,9 +167,13 @@ string-last s at q span h e = ends-as s at q span h e .last
 pub string-stands : (s : List ℕ) (at : ℕ) (q : Quoted) (span : Span) → LastAt s at q → q ≡ Held span → Standing s span
 string-stands s at q span h e = ends-as s at q span h e .stands
 
+-- it holds there
+pub string-holds : (s : List ℕ) (at : ℕ) (q : Quoted) (span : Span) → LastAt s at q → q ≡ Held span → Holds s span
+string-holds s at q span h e = ends-as s at q span h e .stands .holds
+
 -- it has the length that its span tells
 pub string-counted : (s : List ℕ) (at : ℕ) (q : Quoted) (span : Span) → LastAt s at q → q ≡ Held span → span .len ≡ length (textIn s span)
-string-counted s at q span h e = ends-as s at q span h e .stands .counted
+string-counted s at q span h e = ends-as s at q span h e .stands .holds .counted
 
 -- and in a shown line it is shown
 pub string-shown : (s : List ℕ) (at : ℕ) (q : Quoted) (span : Span) → LastAt s at q → q ≡ Held span → every isShown s ≡ true → every isShown (textIn s span) ≡ true
@@ -172,18 +181,7 @@ string-shown s at q span h e k = standing-shown s span (ends-as s at q span h e 
 
 pub ruleset lines = (end-more, end-in, end-out, told, line-number, line-no-number, line-setting, line-no-setting, line-step, line-no-step, line-content, line-no-content, line-string, line-no-string, ended-more)
 
-pub ruleset ending = (string-last, string-stands, string-counted, string-shown)
-
--- tests of two lists put together
-allOf-append : (ps qs : List (List Bool)) → allOf (ps ++ qs) ≡ (allOf ps && allOf qs)
-unfolding allOf
-allOf-append [] qs = refl
-allOf-append (p ∷ ps) qs = rw (allOf-append ps qs) (sym (and-assoc (all p) (allOf ps) (allOf qs)))
-
--- a text is in its ranges if its setting and its content are
-put-ranges : (t : P.Setting) (c : P.Content) → inRange width (P.keep (P.draw (P.put t c))) ≡ (allOf (settingRanges width t) && allOf (contentRanges c))
-unfolding inRange ranges drawRanges
-put-ranges t c = allOf-append (settingRanges width t) (contentRanges c)
+pub ruleset ending = (string-last, string-stands, string-holds, string-counted, string-shown)
 
 -- its setting is, and so its content decides
 pub put-content : (t : P.Setting) (c : P.Content) (a b u : Bool) → a ≡ allOf (settingRanges width t) → a ≡ true → b ≡ allOf (contentRanges c) → b ≡ u → inRange width (P.keep (P.draw (P.put t c))) ≡ u
@@ -193,7 +191,7 @@ put-content t c a b u p e q k = put-ranges t c ∙ rw (← p, e, ← q) k
 pub put-setting : (t : P.Setting) (c : P.Content) (a : Bool) → a ≡ allOf (settingRanges width t) → a ≡ false → inRange width (P.keep (P.draw (P.put t c))) ≡ false
 put-setting t c a p e = put-ranges t c ∙ rw (← p, e)
 
-pub ruleset putting = (put-content, put-setting, content-stands)
+pub ruleset putting = (put-content, put-setting, content-stands, content-told)
 
 -- the letter that a line with a prompt must have is `N`
 letter-n : (l : ℕ) → among (bytes "N") l ≡ true → l ≡ 78

@@ -1,7 +1,7 @@
 -- Tests that every byte of a line passes: as the code walks over the line, and for the strings that stand in it.
 use Prim.Native.Nat.{ℕ, zero, suc, _+_, _≤_, _<_}
-use mathlib.Core.Path.{_≡_, refl, _∙_}
-use mathlib.Core.Bool.{Bool, true, _||_, or-true}
+use mathlib.Core.Path.{_≡_, refl, sym, _∙_}
+use mathlib.Core.Bool.{Bool, true, false, _||_, or-true}
 use mathlib.Core.List.{List, [], _∷_, _++_}
 use native.Mathlib.Omega.{arith}
 use native.Mathlib.Numerals.{add-one}
@@ -17,7 +17,9 @@ use Rattle.paper.proofs.Law.{and-left, and-right, and-both, by-test}
 use Rattle.text.specs.Place.{textAt, Closes, literal}
 use Rattle.text.specs.declared.read.Span.{Span}
 use Rattle.text.proofs.Content.{Steps, closes-steps, closes-escape}
-use Rattle.line.specs.View.{textIn, Standing}
+use Rattle.line.specs.View.{textIn, Standing, ContentStands, Shown, ContentShown}
+use Rattle.line.specs.declared.command.Content.{Content}
+use Rattle.line.specs.declared.command.Content.the-variants as C
 
 -- only the empty text is written as nothing
 escape-none : (x : List ℕ) → escape x ≡ [] → x ≡ []
@@ -29,6 +31,21 @@ escape-none (b ∷ x) e =
 -- at its closing quote a string has no content
 pub text-ends : (s : List ℕ) (i end : ℕ) → Closes s i end → end ≤ i → textAt s i ≡ []
 text-ends s i end h l = escape-none (textAt s i) (closes-escape s i end h l)
+
+-- the code's walk over a string's bytes with a test: one more passes
+pub walk-turns : (test : ℕ → Bool) (s : List ℕ) (start i end r : ℕ) → every test (textAt s start) ≡ every test (textAt s i) → Steps s i end r → test (getD s r 0) ≡ true → every test (textAt s start) ≡ every test (textAt s (r + 1))
+unfolding every
+walk-turns test s start i end r e h p = e ∙ rw (h .content, p)
+
+-- one fails, and so not all pass
+pub walk-stops : (test : ℕ → Bool) (s : List ℕ) (start i end r : ℕ) → every test (textAt s start) ≡ every test (textAt s i) → Steps s i end r → test (getD s r 0) ≡ false → false ≡ every test (textAt s start)
+unfolding every
+walk-stops test s start i end r e h p = sym (e ∙ rw (h .content, p))
+
+-- all passed
+pub walk-ends : (test : ℕ → Bool) (s : List ℕ) (start i end : ℕ) → every test (textAt s start) ≡ every test (textAt s i) → Closes s i end → end ≤ i → true ≡ every test (textAt s start)
+unfolding every
+walk-ends test s start i end e h l = sym (e ∙ rw (text-ends s i end h l))
 
 -- a byte of a text that passes a test passes it
 every-at : (test : ℕ → Bool) (s : List ℕ) (i : ℕ) → every test s ≡ true → i < length s → test (getD s i 0) ≡ true
@@ -57,11 +74,24 @@ closes-every test s end (suc n) i e h l =
 -- a string that stands in a line that passes a test passes it
 pub standing-every : (test : ℕ → Bool) (s : List ℕ) (string : Span) → Standing s string → every test s ≡ true → every test (textIn s string) ≡ true
 unfolding textIn
-standing-every test s string h e = closes-every test s (string .end) (string .end) (string .start) e (h .closes) (omega arith)
+standing-every test s string h e = closes-every test s (string .end) (string .end) (string .start) e (h .holds .closes) (omega arith)
 
 -- a string that stands in a shown line is shown
 pub standing-shown : (s : List ℕ) (string : Span) → Standing s string → every isShown s ≡ true → every isShown (textIn s string) ≡ true
 standing-shown s string h e = standing-every isShown s string h e
+
+-- and has the length that it says
+standing-told : (s : List ℕ) (string : Span) → Standing s string → every isShown s ≡ true → Shown s string
+standing-told s string h e = record { counted = h .holds .counted; shown = standing-shown s string h e }
+
+-- and so does the string of a content
+pub content-shown : (s : List ℕ) (c : Content) → ContentStands s c → every isShown s ≡ true → ContentShown s c
+unfolding ContentStands ContentShown
+content-shown s (C.Text string) h e = standing-told s string h e
+content-shown s (C.Counter n) h e = tt
+content-shown s (C.Variable n) h e = tt
+content-shown s (C.TextCounter string n) h e = standing-told s string h e
+content-shown s (C.TextVariable string n) h e = standing-told s string h e
 
 -- the walk over a line's bytes: one more is shown
 pub shown-turns : (s : List ℕ) (i : ℕ) → every isShown s ≡ every isShown (drop i s) → i < length s → 32 ≤ getD s i 0 → getD s i 0 < 256 → every isShown s ≡ every isShown (drop (i + 1) s)

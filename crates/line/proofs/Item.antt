@@ -148,8 +148,7 @@ standing s at r span p e =
     record {
       opens = rw before (quote-opens s at r span p e);
       begins = omega (arith, held .starts);
-      closes = held .closes;
-      counted = held .counts;
+      holds = record { closes = held .closes; counted = held .counts };
     }
 
 -- where no string stands the content is a value

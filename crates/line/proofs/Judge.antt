@@ -1,20 +1,19 @@
 -- The ranges of the table as the code tests them: each test that a branch took or left is known, and so the whole is.
 use Prim.Native.Nat.{ℕ, _+_, _-_, _≤_, _<_}
-use mathlib.Core.Path.{_≡_, sym, _∙_}
-use mathlib.Core.Bool.{Bool, true, false, _&&_, _||_, and-true, and-false, or-true, or-false}
-use mathlib.Core.List.{List}
+use mathlib.Core.Path.{_≡_, refl, sym, _∙_}
+use mathlib.Core.Bool.{Bool, true, false, _&&_, _||_, and-true, and-false, and-assoc, or-true, or-false}
+use mathlib.Core.List.{List, [], _∷_, _++_}
 use native.Mathlib.Omega.{arith}
 use lib.ListN.{length, drop}
 use lib.Dec.{ltb, leb}
 use borrow.Author.Tests.{ltb-true, ltb-false, lt-ltb, le-ltb, lt-leb, le-leb, eq-eqb, ne-eqb}
 use Rattle.paper.specs.Byte.{between, every}
-use Rattle.paper.specs.Command.{Setting, isShown, texts, valueRange, contentRanges, settingRanges, all, allOf}
+use Rattle.paper.specs.Command.{Setting, isShown, texts, valueRange, contentRanges, settingRanges, drawRanges, ranges, inRange, all, allOf}
+use Rattle.paper.specs.Command as P
 use Rattle.paper.proofs.Test.{agree}
-use Rattle.line.specs.View.{width, textIn, contentOf, Standing, ContentStands}
-use Rattle.text.specs.declared.read.Span.{Span}
+use Rattle.line.specs.View.{width, textIn, contentOf, ContentShown}
 use Rattle.line.specs.declared.command.Content.{Content}
 use Rattle.line.specs.declared.command.Content.the-variants as C
-use Rattle.line.proofs.Held.{standing-shown}
 
 -- a place on the label
 pub within-width : (x : ℕ) → x ≤ 811 → ltb x width ≡ true
@@ -38,11 +37,6 @@ pub shown-judged : (most : ℕ) (p : List ℕ) (n : ℕ) → n ≡ length p → 
 unfolding texts all
 shown-judged most p n counted shown = rw (counted, shown, and-true)
 
--- and so is one that stands in a shown line
-standing-judged : (most : ℕ) (s : List ℕ) (string : Span) → Standing s string → every isShown s ≡ true → leb (string .len) most ≡ all (texts most (textIn s string))
-standing-judged most s string h e =
-    shown-judged most (textIn s string) (string .len) (h .counted) (standing-shown s string h e)
-
 -- the ranges of a content by the numbers of its record
 unfoldable pub contentIn : Content → Bool
 contentIn (C.Text string) = leb (string .len) 100
@@ -51,14 +45,25 @@ contentIn (C.Variable n) = leb n 15
 contentIn (C.TextCounter string n) = leb (string .len) 100 && leb n 9
 contentIn (C.TextVariable string n) = leb (string .len) 100 && leb n 15
 
--- they are the ranges of the content that stands in a shown line
-pub content-judged : (s : List ℕ) (c : Content) → ContentStands s c → every isShown s ≡ true → contentIn c ≡ allOf (contentRanges (contentOf s c))
-unfolding contentIn ContentStands contentOf contentRanges valueRange allOf all
-content-judged s (C.Text string) h e = rw (standing-judged 100 s string h e, and-true)
-content-judged s (C.Counter n) h e = simp and-true
-content-judged s (C.Variable n) h e = simp and-true
-content-judged s (C.TextCounter string n) h e = rw (standing-judged 100 s string h e) (simp and-true)
-content-judged s (C.TextVariable string n) h e = rw (standing-judged 100 s string h e) (simp and-true)
+-- they are the ranges of a content whose string is shown and counted
+pub content-judged : (s : List ℕ) (c : Content) → ContentShown s c → contentIn c ≡ allOf (contentRanges (contentOf s c))
+unfolding contentIn ContentShown contentOf contentRanges valueRange allOf all
+content-judged s (C.Text string) h = rw (shown-judged 100 (textIn s string) (string .len) (h .counted) (h .shown), and-true)
+content-judged s (C.Counter n) h = simp and-true
+content-judged s (C.Variable n) h = simp and-true
+content-judged s (C.TextCounter string n) h = rw (shown-judged 100 (textIn s string) (string .len) (h .counted) (h .shown)) (simp and-true)
+content-judged s (C.TextVariable string n) h = rw (shown-judged 100 (textIn s string) (string .len) (h .counted) (h .shown)) (simp and-true)
+
+-- tests of two lists put together
+allOf-append : (ps qs : List (List Bool)) → allOf (ps ++ qs) ≡ (allOf ps && allOf qs)
+unfolding allOf
+allOf-append [] qs = refl
+allOf-append (p ∷ ps) qs = rw (allOf-append ps qs) (sym (and-assoc (all p) (allOf ps) (allOf qs)))
+
+-- a text is in its ranges if its parameters and its content are
+pub put-ranges : (t : Setting) (c : P.Content) → inRange width (P.keep (P.draw (P.put t c))) ≡ (allOf (settingRanges width t) && allOf (contentRanges c))
+unfolding inRange ranges drawRanges
+put-ranges t c = allOf-append (settingRanges width t) (contentRanges c)
 
 -- a sum past a bound, tested by what the first number leaves
 pub beyond-rest : (a b most : ℕ) → a ≤ most → ltb (most - a) b ≡ ltb most (a + b)

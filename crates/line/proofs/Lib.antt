@@ -7,3 +7,8 @@ pub mod Item
 pub mod Given
 pub mod Family
 pub mod Whole
+pub mod Piece
+pub mod Record
+pub mod Judged
+pub mod Lent
+pub mod RoundTrips

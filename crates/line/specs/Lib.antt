@@ -3,3 +3,4 @@ pub mod View
 pub mod Part
 pub mod Given
 pub mod Family
+pub mod Normal

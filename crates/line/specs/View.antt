@@ -1,8 +1,10 @@
 -- The code's records in the paper's words: a command record with the line that it was read from is a reading of that line.
 use Prim.Native.Nat.{ℕ, _-_, _<_}
 use mathlib.Core.Path.{_≡_}
+use mathlib.Core.Bool.{true}
 use mathlib.Core.List.{List}
 use lib.ListN.{length}
+use Rattle.paper.specs.Byte.{every}
 use Rattle.paper.specs.Line.{quote}
 use Rattle.paper.specs.Command as P
 use Rattle.paper.specs.Refusal as R
@@ -14,6 +16,7 @@ use Rattle.line.specs.declared.command.Refusal.the-variants as W
 use Rattle.line.specs.declared.command.Content.{Content}
 use Rattle.line.specs.declared.command.Content.the-variants as C
 use Rattle.line.specs.declared.command.Setting.{Setting}
+use Rattle.line.specs.declared.command.Put.{Put}
 use Rattle.line.specs.declared.command.Bar.{Bar}
 use Rattle.line.specs.declared.command.Step.{Step}
 use Rattle.line.specs.declared.command.Step.the-variants as S
@@ -68,6 +71,10 @@ settingOf t = record { x = t .x; y = t .y; r = t .r; f = t .f; h = t .h; v = t .
 unfoldable pub barOf : P.Pen → Bar → P.Command
 barOf pen b = P.keep (P.draw (P.bar pen (b .x) (b .y) (b .w) (b .t)))
 
+-- a text, its string read off the line
+unfoldable pub putOf : List ℕ → Put → P.Command
+putOf s p = P.keep (P.draw (P.put (settingOf (p .setting)) (contentOf s (p .content))))
+
 -- a record, its strings read off the line, as a reading
 unfoldable pub viewOf : List ℕ → Command → Read.Reading
 viewOf s M.Empty = Read.command P.empty
@@ -77,7 +84,7 @@ viewOf s M.Inform = Read.command (P.file P.inform)
 viewOf s M.Ask = Read.command P.ask
 viewOf s (M.Size p₁ p₂) = Read.command (P.keep (P.draw (P.size p₁ p₂)))
 viewOf s (M.Direction d) = Read.command (P.keep (P.draw (P.direction d)))
-viewOf s (M.Text put) = Read.command (P.keep (P.draw (P.put (settingOf (put .setting)) (contentOf s (put .content)))))
+viewOf s (M.Text put) = Read.command (putOf s put)
 viewOf s (M.Black b) = Read.command (barOf P.black b)
 viewOf s (M.Flip b) = Read.command (barOf P.flip b)
 viewOf s (M.White b) = Read.command (barOf P.white b)
@@ -91,12 +98,29 @@ viewOf s (M.Delete name) = Read.command (P.file (P.delete (textIn s name)))
 viewOf s (M.Print sets copies) = Read.command (P.print sets copies)
 viewOf s (M.Refused why) = Read.unread (refusalOf why)
 
--- a string that stands in a line: it starts behind a quote, closes with the next, and has the length that it says
+-- a string holds in a line: it closes with the quote at its end, and has the length that it says
+pub record Holds (s : List ℕ) (string : Span) : Type 0 where
+  pub closes : Closes s (string .start) (string .end)
+  pub counted : string .len ≡ length (textIn s string)
+
+-- a string that stands in a line: it starts behind a quote, and holds
 pub record Standing (s : List ℕ) (string : Span) : Type 0 where
   pub opens : byteAt s (string .start - 1) ≡ quote
   pub begins : 0 < string .start
-  pub closes : Closes s (string .start) (string .end)
+  pub holds : Holds s string
+
+-- a string of shown bytes that has the length that it says
+pub record Shown (s : List ℕ) (string : Span) : Type 0 where
   pub counted : string .len ≡ length (textIn s string)
+  pub shown : every P.isShown (textIn s string) ≡ true
+
+-- the string of a content is one
+unfoldable pub ContentShown : List ℕ → Content → Type 0
+ContentShown s (C.Text string) = Shown s string
+ContentShown s (C.Counter n) = Unit
+ContentShown s (C.Variable n) = Unit
+ContentShown s (C.TextCounter string n) = Shown s string
+ContentShown s (C.TextVariable string n) = Shown s string
 
 -- the strings of a content stand in the line
 unfoldable pub ContentStands : List ℕ → Content → Type 0

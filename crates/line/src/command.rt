@@ -122,3 +122,9 @@ pub enum Command {
         why: Refusal,
     },
 }
+
+// The answer to a call that writes into a lent buffer.
+pub enum Answer {
+    Accepted { len: usize },
+    Refused { why: Refusal },
+}

@@ -5,3 +5,4 @@ pub mod kind;
 pub mod parts;
 pub mod range;
 pub mod read;
+pub mod write;

@@ -7,7 +7,7 @@ ghost use Prim.Native.Nat.{ℕ, _+_};
 ghost use lib.ListN.{length, drop};
 ghost use Rattle.paper.specs.Byte.{between, every, same};
 ghost use Rattle.paper.specs.Command.{size, direction, frame, black, counting, varying, draw, define, keep, print, isShown, isNameByte, isName, star, contentRanges, settingRanges, stepRange, all, allOf, inRange};
-ghost use Rattle.line.specs.View.{width, textIn, stepOf, contentOf, settingOf, barOf, Standing, ContentStands};
+ghost use Rattle.line.specs.View.{width, textIn, stepOf, contentOf, settingOf, barOf, Holds, ContentShown};
 use crate::command::Bar;
 use crate::command::Content;
 use crate::command::Setting;
@@ -92,7 +92,7 @@ fn scales_in(s: Setting) -> bool
 
 // The content of a text.
 pub fn content_in(c: Content) -> bool
-    ensures { λ r. ⌜ ((s : List ℕ) → ContentStands s c → every isShown s ≡ true → r ≡ allOf (contentRanges (contentOf s c))) ⌝ }
+    ensures { λ r. ⌜ ((s : List ℕ) → ContentShown s c → r ≡ allOf (contentRanges (contentOf s c))) ⌝ }
 {
     match c {
         Content::Text { string } => string.len <= 100,
@@ -260,7 +260,7 @@ fn name_byte(b: u8) -> bool
 
 // A name: 1 to 16 such bytes.
 pub fn name_in(s: &[u8], name: Span) -> bool
-    requires { ⌜ Standing (now s) name ⌝ }
+    requires { ⌜ Holds (now s) name ⌝ }
     ensures { λ r. ⌜ r ≡ isName (textIn (now (s .entry)) name) ⌝ }
 {
     if name.len < 1 {
@@ -283,7 +283,7 @@ pub fn name_in(s: &[u8], name: Span) -> bool
 
 // The star that stands for every form.
 pub fn is_star(s: &[u8], name: Span) -> bool
-    requires { ⌜ Standing (now s) name ⌝ }
+    requires { ⌜ Holds (now s) name ⌝ }
     ensures { λ r. ⌜ r ≡ same (textIn (now (s .entry)) name) star ⌝ }
 {
     if name.len != 1 {

@@ -23,7 +23,7 @@ content-at-spec =
     (λ c. search (chain, contents))
     (λ c. search (chain, contents))
     (λ c. search (chain, contents))
-    (λ c. let h = standing _ _ _ _ (c .before .before .before .before .string-at .ensures) (c .before .before .span .given .1) in omega (arith, h .closes .inside))
+    (λ c. let h = standing _ _ _ _ (c .before .before .before .before .string-at .ensures) (c .before .before .span .given .1) in omega (arith, h .holds .closes .inside))
     (λ c. search (chain, contents))
     (λ c κs. search needs)
     (λ c. search needs)

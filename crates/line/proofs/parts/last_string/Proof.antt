@@ -13,6 +13,6 @@ last-string-spec =
     (λ c. search needs)
     (λ c. search needs)
     (λ c. search last-missing)
-    (λ c. let h = standing _ _ _ _ (c .before .before .before .before .string-at .ensures) (c .before .before .span .given .1) in omega (arith, h .closes .inside))
+    (λ c. let h = standing _ _ _ _ (c .before .before .before .before .string-at .ensures) (c .before .before .span .given .1) in omega (arith, h .holds .closes .inside))
     (λ c. search last-more)
     (λ c. search last-held))

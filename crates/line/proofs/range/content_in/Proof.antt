@@ -1,4 +1,4 @@
--- `content_in` answers the ranges of a content by its numbers, which are the ranges of the content that stands in a shown line.
+-- `content_in` answers the ranges of a content by its numbers, which are the ranges of a content whose string is shown and counted.
 use mathlib.Core.Path.{_∙_}
 use borrow.Author.Needs.{needs}
 use Rattle.line.proofs.Judge.{judging, contentIn, content-judged}
@@ -14,11 +14,11 @@ content-in-spec =
     (λ c. search needs)
     (λ c. search needs)
     (λ c. search needs)
-    (λ c s stands shown. rw (c .before .before .before .c4 .given .1) (search judging) ∙ content-judged s _ stands shown)
+    (λ c s shown. rw (c .before .before .before .c4 .given .1) (search judging) ∙ content-judged s _ shown)
     (λ c. search needs)
-    (λ c s stands shown. rw (c .before .before .before .c5 .given .1) (search judging) ∙ content-judged s _ stands shown)
-    (λ c s stands shown. rw (c .before .before .c .given .1) (search judging) ∙ content-judged s _ stands shown)
-    (λ c s stands shown. rw (c .before .c2 .given .1) (search judging) ∙ content-judged s _ stands shown)
-    (λ c s stands shown. rw (c .before .c3 .given .1) (search judging) ∙ content-judged s _ stands shown)
-    (λ c s stands shown. rw (c .before .before .before .c4 .given .1) (search judging) ∙ content-judged s _ stands shown)
-    (λ c s stands shown. rw (c .before .before .before .c5 .given .1) (search judging) ∙ content-judged s _ stands shown))
+    (λ c s shown. rw (c .before .before .before .c5 .given .1) (search judging) ∙ content-judged s _ shown)
+    (λ c s shown. rw (c .before .before .c .given .1) (search judging) ∙ content-judged s _ shown)
+    (λ c s shown. rw (c .before .c2 .given .1) (search judging) ∙ content-judged s _ shown)
+    (λ c s shown. rw (c .before .c3 .given .1) (search judging) ∙ content-judged s _ shown)
+    (λ c s shown. rw (c .before .before .before .c4 .given .1) (search judging) ∙ content-judged s _ shown)
+    (λ c s shown. rw (c .before .before .before .c5 .given .1) (search judging) ∙ content-judged s _ shown))

@@ -8,7 +8,8 @@ use Rattle.paper.specs.Byte.{every}
 use Rattle.paper.specs.Command.{isNameByte}
 use Rattle.text.specs.Place.{textAt, Closes}
 use Rattle.text.proofs.Content.{Steps, closes-steps}
-use Rattle.line.proofs.Name.{name-turns, name-stops, name-ends, name-empty, name-long, name-judged}
+use Rattle.line.proofs.Held.{walk-turns, walk-stops, walk-ends}
+use Rattle.line.proofs.Name.{name-byte, name-empty, name-long, name-judged}
 use Rattle.line.proofs.range.name_in.Statement.{statement}
 use Rattle.line.proofs.range.name_in.Tie as tie
 
@@ -41,7 +42,7 @@ name-byte-requires : tie.Need-name-byte-requires Inv-loop μ-loop
 name-byte-requires c κs = search needs
 
 returns-3 : tie.Need-returns-3 Inv-loop μ-loop
-returns-3 c = let s = step (c .before .before .before) in search (name-judged, name-stops, not-true)
+returns-3 c = let s = step (c .before .before .before) in search (name-judged, walk-stops, name-byte, not-true)
 
 add-i : tie.Need-add-i Inv-loop μ-loop
 add-i c = let s = step (c .before .before .before) in omega arith
@@ -50,10 +51,10 @@ loop-less : tie.Need-loop-less Inv-loop μ-loop
 loop-less c = let s = step (c .before .before .before) in omega arith
 
 loop-again : tie.Need-loop-again Inv-loop μ-loop
-loop-again c = let s = step (c .before .before .before) in (search (name-turns, not-false), s .left)
+loop-again c = let s = step (c .before .before .before) in (search (walk-turns, name-byte, not-false), s .left)
 
 returns-4 : tie.Need-returns-4 Inv-loop μ-loop
-returns-4 c = search (name-judged, name-ends)
+returns-4 c = search (name-judged, walk-ends)
 
 pub name-in-spec : {M : Type 1} → statement M
 name-in-spec =

@@ -7,7 +7,10 @@ use native.Mathlib.Omega.{arith}
 use lib.ListN.{length, take, drop, length-append}
 use Rattle.text.specs.Write.{Writes}
 use Rattle.text.proofs.Written.{writes-then, writes-length}
+use Rattle.paper.specs.Line.{escape}
 use Rattle.set.specs.Fill.{headText, partOf, shownPart, Within}
+use Rattle.set.specs.Told.{placeBegins, placeEnds, answeredLine}
+use Rattle.set.specs.declared.values.Values.{Values}
 
 -- room for the first of some pieces, for the next, and for the last
 pub first-room : (old : List ℕ) (at : ℕ) (u v : List ℕ) → at + length (u ++ v) ≤ length old → at + length u ≤ length old
@@ -63,3 +66,10 @@ shown-answers t text answers start end e = rw e
 pub shown-text : (t : Bool) (text answers : List ℕ) (start end : ℕ) → t ≡ false → take (end - start) (drop start text) ≡ shownPart t text answers start end
 unfolding shownPart partOf
 shown-text t text answers start end e = rw e
+
+-- the shown answer in place of a line's last bytes
+pub answered-line : (old new line answers x : List ℕ) (at end tail n : ℕ) (opens : Bool) (v : Values) → x ≡ partOf answers (placeBegins v n) (placeEnds v n)
+    → Writes old at (headText (take (length line - tail) line) opens ++ (escape x ++ (34 ∷ []))) new end
+    → Writes old at (answeredLine line tail opens v n answers) new end
+unfolding answeredLine
+answered-line old new line answers x at end tail n opens v e w = rw (← e) w

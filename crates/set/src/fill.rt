@@ -1,5 +1,5 @@
 // A line of a set with a value in place: the line up to the value, the value, and the closing quote.
-ghost use Prim.Native.Nat.{_+_, _≤_};
+ghost use Prim.Native.Nat.{_+_, _≤_, _<_};
 ghost use mathlib.Core.Path.{_≡_};
 ghost use mathlib.Core.Bool.{true, false};
 ghost use mathlib.Core.List.{[], _∷_, _++_};
@@ -9,7 +9,9 @@ ghost use Rattle.paper.specs.Line.{escape};
 ghost use Rattle.paper.specs.Set as P;
 ghost use Rattle.text.specs.Write.{Writes};
 ghost use Rattle.set.specs.Fill.{headText, shownPart, Within};
+ghost use Rattle.set.specs.Told.{countedLine, answeredLine, placeBegins, placeEnds};
 use crate::count::put_count;
+use crate::values::Values;
 use text::write::put;
 use text::write::put_all;
 use text::write::put_escaped;
@@ -68,4 +70,51 @@ pub fn put_answered(out: &mut [u8], at: usize, head: &[u8], opens: bool, answer:
     let a = put_head(out, at, head, opens);
     let b = put_escaped(out, a, answer);
     put(out, b, 34)
+}
+
+// A line whose last bytes name a counter, with the counter's digits in place of them.
+fn put_counter(
+    out: &mut [u8],
+    at: usize,
+    line: &[u8],
+    tail: usize,
+    opens: bool,
+    v: Values,
+    n: usize,
+) -> usize
+    requires { ⌜ (n < 10) × (tail ≤ length (now line)) ⌝ }
+    requires { ⌜ at + length (countedLine (now line) tail opens v n) ≤ length (now out) ⌝ }
+    ensures { λ r. ⌜ Writes (now (out .entry)) at (countedLine (now (line .entry)) tail opens v n) (now (out .exit)) r ⌝ }
+{
+    let cut = line.len() - tail;
+    let value = v.counts[n];
+    let digits = v.digits[n];
+    put_counted(out, at, &line[..cut], opens, value, digits)
+}
+
+// A line whose last bytes name a variable, with the variable's answer in place of them.
+fn put_variable<'a>(
+    out: &mut [u8],
+    at: usize,
+    line: &'a [u8],
+    tail: usize,
+    opens: bool,
+    v: Values,
+    n: usize,
+    answers: &'a [u8],
+) -> usize
+    requires { ⌜ (n < 16) × (tail ≤ length (now line)) × (placeBegins v n ≤ placeEnds v n) × (placeEnds v n ≤ length (now answers)) ⌝ }
+    requires { ⌜ at + length (answeredLine (now line) tail opens v n (now answers)) ≤ length (now out) ⌝ }
+    ensures { λ r. ⌜ Writes (now (out .entry)) at (answeredLine (now (line .entry)) tail opens v n (now (answers .entry))) (now (out .exit)) r ⌝ }
+{
+    let cut = line.len() - tail;
+    let start = v.starts[n];
+    let end = v.ends[n];
+    put_answered(
+        out,
+        at,
+        &line[..cut],
+        opens,
+        shown(line, answers, true, start, end),
+    )
 }

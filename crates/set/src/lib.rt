@@ -1,3 +1,4 @@
 // Print sets: what each value shows, and one set into a buffer.
 pub mod count;
 pub mod fill;
+pub mod values;

@@ -4,7 +4,7 @@ use mathlib.Core.Path.{_≡_}
 use mathlib.Core.List.{List, [], _∷_, _++_}
 use mathlib.Core.Bool.{Bool}
 use mathlib.Core.Option.{some}
-use lib.ListN.{length, take, getD, set}
+use lib.ListN.{length, take, getD, set, replicate}
 use Rattle.paper.specs.Byte.{decimal}
 use Rattle.paper.specs.Line.{escape}
 use Rattle.paper.specs.Command as P
@@ -12,6 +12,10 @@ use Rattle.paper.specs.Form.{defined}
 use Rattle.paper.specs.Set.{padded, valueIn}
 use Rattle.set.specs.Fill.{headText, partOf}
 use Rattle.set.specs.declared.values.Values.{Values}
+
+-- nothing is noted yet
+abbrev pub untold : Values
+untold = record { counts = replicate 10 0; digits = replicate 10 0; starts = replicate 16 0; ends = replicate 16 0 }
 
 -- a counter's value and digits are noted
 abbrev pub noted : Values → (n count digits : ℕ) → Values

@@ -1,8 +1,7 @@
 // What each value shows in a set: a counter's value and the least count of its digits, a variable's place in the answers.
 ghost use Prim.Native.Nat.{_<_};
 ghost use mathlib.Core.Path.{_≡_};
-ghost use lib.ListN.{getD};
-ghost use Rattle.set.specs.Told.{noted, placed};
+ghost use Rattle.set.specs.Told.{untold, noted, placed};
 
 pub struct Values {
     pub counts: [usize; 10],
@@ -13,7 +12,9 @@ pub struct Values {
 
 impl Values {
     // Nothing is known yet.
-    pub fn new() -> Self {
+    pub fn new() -> Self
+        ensures { λ r. ⌜ r ≡ untold ⌝ }
+    {
         Values {
             counts: [0usize; 10],
             digits: [0usize; 10],

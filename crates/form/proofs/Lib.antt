@@ -1,0 +1,5 @@
+pub mod Lines
+pub mod Wanted
+pub mod Slots
+pub mod Judged
+pub mod Broken

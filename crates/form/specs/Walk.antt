@@ -1,0 +1,11 @@
+-- The lines of a text.
+use Prim.Native.Nat.{ℕ}
+use mathlib.Core.List.{List, [], _∷_}
+use lib.Dec.{eqb}
+use Rattle.paper.specs.Byte.{if_then_else_}
+use Rattle.paper.specs.Line.{lf}
+
+-- the bytes before the first LF, or all where there is none
+unfoldable pub firstLine : List ℕ → List ℕ
+firstLine [] = []
+firstLine (b ∷ s) = if eqb b lf then [] else (b ∷ firstLine s)

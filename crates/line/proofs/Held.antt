@@ -1,36 +1,25 @@
 -- Tests that every byte of a line passes: as the code walks over the line, and for the strings that stand in it.
 use Prim.Native.Nat.{ℕ, zero, suc, _+_, _≤_, _<_}
 use mathlib.Core.Path.{_≡_, refl, sym, _∙_}
-use mathlib.Core.Bool.{Bool, true, false, _||_, or-true}
+use mathlib.Core.Bool.{Bool, true, false, or-true}
 use mathlib.Core.List.{List, [], _∷_, _++_}
 use native.Mathlib.Omega.{arith}
 use native.Mathlib.Numerals.{add-one}
 use native.Mathlib.Decide.{decLt}
 use lib.ListN.{length, take, drop, getD, drop-of-length-le, take-append-drop}
 use lib.Seq.{drop-cons}
-use lib.Dec.{eqb, ltb}
+use lib.Dec.{ltb}
 use borrow.Author.Tests.{le-leb, lt-ltb}
 use Rattle.paper.specs.Byte.{between, every, any}
-use Rattle.paper.specs.Line.{quote, backslash, escape, control}
+use Rattle.paper.specs.Line.{control}
 use Rattle.paper.specs.Command.{isShown}
-use Rattle.paper.proofs.Law.{and-left, and-right, and-both, by-test}
+use Rattle.paper.proofs.Law.{and-left, and-right, and-both}
 use Rattle.text.specs.Place.{textAt, Closes, literal}
 use Rattle.text.specs.declared.read.Span.{Span}
-use Rattle.text.proofs.Content.{Steps, closes-steps, closes-escape}
+use Rattle.text.proofs.Content.{Steps, closes-ends, closes-steps}
 use Rattle.line.specs.View.{textIn, Standing, ContentStands, Shown, ContentShown}
 use Rattle.line.specs.declared.command.Content.{Content}
 use Rattle.line.specs.declared.command.Content.the-variants as C
-
--- only the empty text is written as nothing
-escape-none : (x : List ℕ) → escape x ≡ [] → x ≡ []
-unfolding escape
-escape-none [] e = refl
-escape-none (b ∷ x) e =
-    by-test (λ t. t ≡ [] → b ∷ x ≡ []) (eqb b quote || eqb b backslash) (backslash ∷ b ∷ escape x) (b ∷ escape x) (λ _ q. cc) (λ _ q. cc) e
-
--- at its closing quote a string has no content
-pub text-ends : (s : List ℕ) (i end : ℕ) → Closes s i end → end ≤ i → textAt s i ≡ []
-text-ends s i end h l = escape-none (textAt s i) (closes-escape s i end h l)
 
 -- the code's walk over a string's bytes with a test: one more passes
 pub walk-turns : (test : ℕ → Bool) (s : List ℕ) (start i end r : ℕ) → every test (textAt s start) ≡ every test (textAt s i) → Steps s i end r → test (getD s r 0) ≡ true → every test (textAt s start) ≡ every test (textAt s (r + 1))
@@ -45,7 +34,7 @@ walk-stops test s start i end r e h p = sym (e ∙ rw (h .content, p))
 -- all passed
 pub walk-ends : (test : ℕ → Bool) (s : List ℕ) (start i end : ℕ) → every test (textAt s start) ≡ every test (textAt s i) → Closes s i end → end ≤ i → true ≡ every test (textAt s start)
 unfolding every
-walk-ends test s start i end e h l = sym (e ∙ rw (text-ends s i end h l))
+walk-ends test s start i end e h l = sym (e ∙ rw (closes-ends s i end h l))
 
 -- a byte of a text that passes a test passes it
 every-at : (test : ℕ → Bool) (s : List ℕ) (i : ℕ) → every test s ≡ true → i < length s → test (getD s i 0) ≡ true
@@ -57,11 +46,11 @@ every-at test (b ∷ s) (suc i) e h = every-at test s i (and-right (test b) (eve
 -- a string that closes in a line that passes a test passes it, from any place at most so many bytes before its end
 closes-every : (test : ℕ → Bool) (s : List ℕ) (end n i : ℕ) → every test s ≡ true → Closes s i end → end ≤ i + n → every test (textAt s i) ≡ true
 unfolding every
-closes-every test s end zero i e h l = rw (text-ends s i end h (omega arith))
+closes-every test s end zero i e h l = rw (closes-ends s i end h (omega arith))
 closes-every test s end (suc n) i e h l =
     elim (decLt i end) [
       | yes k ↦ goes (closes-steps s i end (literal s i) h k refl) (closes-every test s end n (literal s i + 1) e)
-      | no k ↦ rw (text-ends s i end h (omega arith))
+      | no k ↦ rw (closes-ends s i end h (omega arith))
     ]
   where
     goes : Steps s i end (literal s i) → (Closes s (literal s i + 1) end → end ≤ literal s i + 1 + n → every test (textAt s (literal s i + 1)) ≡ true) → every test (textAt s i) ≡ true

@@ -15,14 +15,13 @@ use Rattle.paper.proofs.Test.{either}
 use Rattle.paper.proofs.Text.{same-eq}
 use Rattle.text.specs.Place.{byteAt, textAt, Closes, literal}
 use Rattle.text.specs.declared.read.Span.{Span}
-use Rattle.text.proofs.Content.{Steps, closes-steps}
+use Rattle.text.proofs.Content.{Steps, closes-steps, closes-ends}
 use Rattle.line.specs.View.{textIn, Holds}
-use Rattle.line.proofs.Held.{text-ends}
 
 -- a string that has some starts before its closing quote
 text-starts : (s : List ℕ) (i end : ℕ) → Closes s i end → 1 ≤ length (textAt s i) → i < end
 text-starts s i end h l =
-    elim (decLt i end) [ yes k ↦ k | no k ↦ absurd (let none = text-ends s i end h (omega arith) in let l′ = rw none at l in omega arith) ]
+    elim (decLt i end) [ yes k ↦ k | no k ↦ absurd (let none = closes-ends s i end h (omega arith) in let l′ = rw none at l in omega arith) ]
 
 -- what the answer about a name's byte says of the byte in the line
 pub name-byte : (s : List ℕ) (r b : ℕ) (t u : Bool) → b ≡ byteAt s r → t ≡ isNameByte b → t ≡ u → isNameByte (getD s r 0) ≡ u

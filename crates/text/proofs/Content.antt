@@ -60,7 +60,7 @@ closes-sizes s i end h =
     rw (← length-from s i, ← length-from s (end + 1)) (ends .sizes)
 
 -- at its closing quote a string has no content
-closes-ends : (s : List ℕ) (i end : ℕ) → Closes s i end → end ≤ i → textAt s i ≡ []
+pub closes-ends : (s : List ℕ) (i end : ℕ) → Closes s i end → end ≤ i → textAt s i ≡ []
 closes-ends s i end h l = none (textAt s i) (omega (arith, h .inside, closes-sizes s i end h))
   where
     none : (x : List ℕ) → length x < 1 → x ≡ []

@@ -1,3 +1,5 @@
 pub mod Count
 pub mod Fill
 pub mod Told
+pub mod Taking
+pub mod Showing

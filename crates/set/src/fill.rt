@@ -73,7 +73,7 @@ pub fn put_answered(out: &mut [u8], at: usize, head: &[u8], opens: bool, answer:
 }
 
 // A line whose last bytes name a counter, with the counter's digits in place of them.
-fn put_counter(
+pub fn put_counter(
     out: &mut [u8],
     at: usize,
     line: &[u8],
@@ -93,7 +93,7 @@ fn put_counter(
 }
 
 // A line whose last bytes name a variable, with the variable's answer in place of them.
-fn put_variable<'a>(
+pub fn put_variable<'a>(
     out: &mut [u8],
     at: usize,
     line: &'a [u8],

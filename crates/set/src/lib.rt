@@ -1,4 +1,5 @@
 // Print sets: what each value shows, and one set into a buffer.
 pub mod count;
 pub mod fill;
+pub mod take;
 pub mod values;

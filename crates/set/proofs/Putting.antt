@@ -1,0 +1,233 @@
+-- A set line by line: the lines that are left are still to be written, and all that the lines above define is told.
+use mathlib.Core.Path.{_≡_, refl, sym, _∙_, ap}
+use mathlib.Core.Bool.{Bool, true, false, _&&_, not, false≢true}
+use mathlib.Core.List.{List, [], _∷_, _++_, append-assoc, append-nil}
+use mathlib.Core.Option.{Option, none, some}
+use Prim.Native.Nat.{ℕ, suc, _+_, _≤_, _<_}
+use native.Mathlib.Omega.{arith}
+use lib.ListN.{length}
+use Rattle.paper.specs.Line.{lf}
+use Rattle.paper.specs.Command as P
+use Rattle.paper.specs.Command.{all, inRange, ranges}
+use Rattle.paper.specs.Form.{asked, defined, valueOf, sameValue, isSome, contentSound, drawSound, valueSound, firstBroken, unsoundAt}
+use Rattle.paper.specs.Set.{fits, valueIn, filled, placed, drawn, setLines, setOf}
+use Rattle.paper.specs.State.{fitting}
+use Rattle.paper.specs.Write.{lineText, normal, linesText}
+use Rattle.paper.proofs.Law.{if-true, if-false, and-left, and-right}
+use Rattle.paper.proofs.Test.{Passed, either}
+use Rattle.text.specs.Write.{Writes}
+use Rattle.text.proofs.Written.{Writing, writing-begins, writing-turns, writing-room}
+use Rattle.text.specs.Place.{from}
+use Rattle.line.specs.View.{width, viewOf}
+use Rattle.line.specs.declared.command.Command.{Command}
+use Rattle.form.proofs.Lines.{lineAt}
+use Rattle.paper.proofs.SetOf.{set-room}
+use Rattle.paper.proofs.Filled.{broken-cons}
+use Rattle.paper.specs.Byte.{bytes}
+use Rattle.set.specs.Told.{Told}
+use Rattle.set.specs.Taking.{Taking, Tells}
+use Rattle.set.specs.Fill.{partOf}
+use Rattle.form.specs.declared.asked.Define.{Define}
+use Rattle.set.specs.Showing.{shownLine, Drawing, lineShown}
+use Rattle.set.specs.declared.values.Values.{Values}
+use Rattle.set.proofs.Telling.{Paired, told-begins}
+use Rattle.set.proofs.Giving.{fitting-paired}
+use Rattle.set.proofs.Walking.{Walk, Draws, Asks}
+
+-- tests that pass one by one pass together
+passed-all : (ts : List Bool) → Passed ts → all ts ≡ true
+unfolding all
+passed-all [] h = refl
+passed-all (t ∷ ts) h = rw (h .0, passed-all ts (h .1))
+
+-- a value that is defined above shows what it shows in the whole form
+value-more : (ds more : List P.Define) (given later : List (List ℕ)) (i : ℕ) (v : P.Value) → Paired ds given → isSome (defined v ds) ≡ true
+    → valueIn ds given i v ≡ valueIn (ds ++ more) (given ++ later) i v
+unfolding defined valueIn isSome
+value-more [] more [] later i v p f = absurd (false≢true f)
+value-more [] more (b ∷ given) later i v p f = absurd p
+value-more (x ∷ ds) more [] later i v p f = absurd p
+value-more (x ∷ ds) more (b ∷ given) later i v p f =
+    either (sameValue v (valueOf x))
+    (λ y. if-true _ _ _ y ∙ sym (if-true _ _ _ y))
+    (λ n. if-false _ _ _ n ∙ value-more ds more given later i v p (ap isSome (sym (if-false _ _ _ n)) ∙ f) ∙ sym (if-false _ _ _ n))
+
+-- and so does a line that names only such values
+placed-agrees : (ds more : List P.Define) (given later : List (List ℕ)) (i : ℕ) (d : P.Draw) → Paired ds given → Passed (drawSound ds d)
+    → placed (valueIn ds given i) d ≡ placed (valueIn (ds ++ more) (given ++ later) i) d
+unfolding drawSound contentSound placed filled
+placed-agrees ds more given later i (P.size p₁ p₂) p s = refl
+placed-agrees ds more given later i (P.direction d) p s = refl
+placed-agrees ds more given later i (P.put t (P.text x)) p s = refl
+placed-agrees ds more given later i (P.put t (P.shown v)) p s = ap (λ x. P.put t (P.text x)) (value-more ds more given later i v p (s .0))
+placed-agrees ds more given later i (P.put t (P.joined x v)) p s = ap (λ y. P.put t (P.text (x ++ y))) (value-more ds more given later i v p (s .0))
+placed-agrees ds more given later i (P.bar pen x y w t) p s = refl
+placed-agrees ds more given later i (P.frame x₁ y₁ t x₂ y₂) p s = refl
+
+-- the values of the whole form and those of the lines above it place the same
+placed-whole : (whole ds more : List P.Define) (every given later : List (List ℕ)) (i : ℕ) (d : P.Draw) → whole ≡ ds ++ more → every ≡ given ++ later → Paired ds given → Passed (drawSound ds d)
+    → placed (valueIn whole every i) d ≡ placed (valueIn ds given i) d
+placed-whole whole ds more every given later i d e f p s = rw (e, f) (sym (placed-agrees ds more given later i d p s))
+
+-- what the lines from some on still write
+abbrev pub restOf : (P.Value → List ℕ) → List P.FormLine → ℕ → List ℕ
+restOf values left copies = linesText (drawn values left ++ (P.print 1 copies ∷ []))
+
+-- a line that draws is the next to be written
+rest-draws : (values : P.Value → List ℕ) (d : P.Draw) (more : List P.FormLine) (copies : ℕ) → restOf values (P.draw d ∷ more) copies ≡ (shownLine values d ++ (lf ∷ [])) ++ restOf values more copies
+unfolding drawn linesText normal shownLine
+rest-draws values d more copies = sym (append-assoc (lineText (P.draw (placed values d))) (lf ∷ []) _)
+
+-- nothing is there
+none-there : (o : Option P.Define) → not (isSome o) ≡ true → o ≡ none
+unfolding isSome
+none-there none e = refl
+none-there (some d) e = absurd (false≢true e)
+
+-- an answer more that fits a definition more
+fitting-more : (ds : List P.Define) (given : List (List ℕ)) (d : P.Define) (a : List ℕ) → fitting ds given ≡ true → fits d a ≡ true → fitting (ds ++ (d ∷ [])) (given ++ (a ∷ [])) ≡ true
+unfolding fitting
+fitting-more [] [] d a e f = rw f
+fitting-more [] (b ∷ given) d a e f = absurd (false≢true e)
+fitting-more (x ∷ ds) [] d a e f = absurd (false≢true e)
+fitting-more (x ∷ ds) (b ∷ given) d a e f = rw (and-left (fits x b) _ e) (fitting-more ds given d a (and-right (fits x b) _ e) f)
+
+-- a set in the making
+pub record Making (text answers : List ℕ) (copies i : ℕ) (t : Taking text answers copies i) (old : List ℕ) (v : Values) (new : List ℕ) (next at given : ℕ) : Type 0 where
+  pub left : List P.FormLine
+  pub later : List (List ℕ)
+  pub above : List P.Define
+  pub before : List (List ℕ)
+  pub lines : ℕ
+  pub walk : Walk text answers at given left later
+  pub defines : asked (t .form .lines) ≡ above ++ asked left
+  pub answered : t .form .given ≡ before ++ later
+  pub fit : fitting above before ≡ true
+  pub told : Told v answers above before i
+  pub sound : firstBroken lines above left ≡ none
+  pub writing : Writing old 0 (setOf (t .form .lines) (t .form .given) copies i) (restOf (valueIn (asked (t .form .lines)) (t .form .given) i) left copies) new next
+
+-- it is for every form and answers of these bytes
+pub record Putting (text answers : List ℕ) (copies i : ℕ) (old : List ℕ) (v : Values) (new : List ℕ) (next at given : ℕ) : Type 0 where
+  pub putting : (t : Taking text answers copies i) → Making text answers copies i t old v new next at given
+
+-- the whole set is `N` and what all lines write
+set-begins : (ls : List P.FormLine) (given : List (List ℕ)) (copies i : ℕ) → setOf ls given copies i ≡ (78 ∷ 10 ∷ []) ++ restOf (valueIn (asked ls) given i) ls copies
+unfolding setOf setLines linesText normal bytes
+set-begins ls given copies i = refl
+
+-- nothing is written but `N`
+pub putting-begins : (text answers : List ℕ) (copies i : ℕ) (old : List ℕ) (v : Values) (new : List ℕ) (next : ℕ) → 10291 ≤ length old → Writes old 0 (78 ∷ 10 ∷ []) new next
+    → Putting text answers copies i old v new next 0 0
+unfolding from unsoundAt fitting
+putting-begins text answers copies i old v new next h w = record { putting = begin }
+  where
+    begin : (t : Taking text answers copies i) → Making text answers copies i t old v new next 0 0
+    begin t =
+        let f = t .form in
+        let short = set-room width (f .lines) (f .given) (t .sets) copies i (f .storable) (f .fit) (t .printing) (omega arith) in
+        record {
+          left = f .lines;
+          later = f .given;
+          above = [];
+          before = [];
+          lines = 0;
+          walk = record { here = f .is; inside = f .storable .inside; there = f .answered; fit = f .fit };
+          defines = refl;
+          answered = refl;
+          fit = refl;
+          told = told-begins v answers i;
+          sound = f .storable .sound;
+          writing = writing-turns old 0 _ _ old 0 (78 ∷ 10 ∷ []) _ new next (writing-begins old 0 _ (omega arith)) (set-begins (f .lines) (f .given) copies i) w;
+        }
+
+module _ (text answers : List ℕ) (copies i : ℕ) (t : Taking text answers copies i) (old : List ℕ) (v : Values) (new : List ℕ) (next at given end : ℕ) (c : Command)
+    (m : Making text answers copies i t old v new next at given) (d : Draws text answers at given end c (m .left) (m .later)) where
+  -- the next line is sound below the definitions above it
+  sound-next : Passed (drawSound (m .above) (d .draw)) × (firstBroken (suc (m .lines)) (m .above) (d .more) ≡ none)
+  unfolding valueSound asked
+  sound-next =
+      let below : firstBroken (m .lines) (m .above) (P.draw (d .draw) ∷ d .more) ≡ none = rw (d .is) at (m .sound) in
+      let all-three = broken-cons (m .lines) (m .above) (P.draw (d .draw)) (d .more) below in
+      (all-three .1, rw append-nil at (all-three .2))
+
+  -- and is a line to be drawn
+  pub making-draws : Drawing (lineAt text at end) c v answers
+  unfolding inRange ranges
+  making-draws =
+      record {
+        draw = d .draw;
+        above = m .above;
+        before = m .before;
+        number = i;
+        is = d .line;
+        view = rw (d .line) (d .view);
+        range = d .range;
+        told = m .told;
+        sound = passed-all _ (sound-next .0);
+      }
+
+  -- what it becomes is the next of the set
+  making-next : restOf (valueIn (asked (t .form .lines)) (t .form .given) i) (m .left) copies
+      ≡ lineShown (lineAt text at end) c v answers making-draws ++ restOf (valueIn (asked (t .form .lines)) (t .form .given) i) (d .more) copies
+  unfolding lineShown making-draws shownLine
+  making-next =
+      ap (λ x. restOf (valueIn (asked (t .form .lines)) (t .form .given) i) x copies) (d .is)
+      ∙ rest-draws _ (d .draw) (d .more) copies
+      ∙ ap (λ x. (lineText (P.draw x) ++ (lf ∷ [])) ++ restOf (valueIn (asked (t .form .lines)) (t .form .given) i) (d .more) copies)
+      (placed-whole (asked (t .form .lines)) (m .above) (asked (m .left)) (t .form .given) (m .before) (m .later) i (d .draw) (m .defines) (m .answered) (fitting-paired (m .above) (m .before) (m .fit)) (sound-next .0))
+
+  -- there is room for it
+  pub making-room : next + length (lineShown (lineAt text at end) c v answers making-draws) ≤ length new
+  making-room =
+      writing-room old 0 _ _ new next (lineShown (lineAt text at end) c v answers making-draws) (restOf (valueIn (asked (t .form .lines)) (t .form .given) i) (d .more) copies) (m .writing)
+      making-next
+
+  -- and with it the set goes on
+  pub making-goes : (newer : List ℕ) (after : ℕ) → Writes new next (lineShown (lineAt text at end) c v answers making-draws) newer after
+      → Making text answers copies i t old v newer after (end + 1) given
+  unfolding asked
+  making-goes newer after w =
+      record {
+        left = d .more;
+        later = m .later;
+        above = m .above;
+        before = m .before;
+        lines = suc (m .lines);
+        walk = d .next;
+        defines = m .defines ∙ ap (λ x. m .above ++ asked x) (d .is);
+        answered = m .answered;
+        fit = m .fit;
+        told = m .told;
+        sound = sound-next .1;
+        writing = writing-turns old 0 _ _ new next (lineShown (lineAt text at end) c v answers making-draws) _ newer after (m .writing) making-next w;
+      }
+
+module _ (text answers : List ℕ) (copies i : ℕ) (t : Taking text answers copies i) (old : List ℕ) (v : Values) (new : List ℕ) (next at given end close : ℕ) (define : Define)
+    (m : Making text answers copies i t old v new next at given) (a : Asks text answers at given end close define (m .left) (m .later)) where
+  -- the next line defines what is not defined above it
+  new-next : (defined (valueOf (a .fits .asks)) (m .above) ≡ none) × (firstBroken (suc (m .lines)) (m .above ++ (a .fits .asks ∷ [])) (a .more) ≡ none)
+  unfolding valueSound asked
+  new-next =
+      let below : firstBroken (m .lines) (m .above) (P.define (a .fits .asks) ∷ a .more) ≡ none = rw (a .is) at (m .sound) in
+      let all-three = broken-cons (m .lines) (m .above) (P.define (a .fits .asks)) (a .more) below in
+      (none-there (defined (valueOf (a .fits .asks)) (m .above)) (all-three .1 .0), all-three .2)
+
+  -- with its value told the set goes on
+  pub making-tells : (r : Values) → Tells v answers (a .fits .asks) (partOf answers given close) i r → Making text answers copies i t old r new next (end + 1) (close + 1)
+  unfolding asked drawn
+  making-tells r tells =
+      record {
+        left = a .more;
+        later = a .behind;
+        above = m .above ++ (a .fits .asks ∷ []);
+        before = m .before ++ (partOf answers given close ∷ []);
+        lines = suc (m .lines);
+        walk = a .next;
+        defines = m .defines ∙ ap (λ x. m .above ++ asked x) (a .is) ∙ sym (append-assoc (m .above) (a .fits .asks ∷ []) (asked (a .more)));
+        answered = m .answered ∙ ap (λ x. m .before ++ x) (a .answer) ∙ sym (append-assoc (m .before) (partOf answers given close ∷ []) (a .behind));
+        fit = fitting-more (m .above) (m .before) (a .fits .asks) (partOf answers given close) (m .fit) (a .fits .fit);
+        told = tells .tells (m .above) (m .before) (m .told) (m .fit) (new-next .0);
+        sound = new-next .1;
+        writing = rw (a .is) at (m .writing);
+      }

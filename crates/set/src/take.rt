@@ -1,0 +1,135 @@
+// One print set into a buffer, and whether every set keeps the counters within their bounds.
+ghost use Prim.Native.Nat.{_+_, _≤_};
+ghost use mathlib.Core.Path.{_≡_};
+ghost use lib.ListN.{length};
+ghost use Rattle.paper.specs.Form.{asked};
+ghost use Rattle.paper.specs.Set.{holdsTo, allHold};
+ghost use Rattle.text.specs.Write.{Writes};
+ghost use Rattle.set.specs.Fill.{partOf};
+ghost use Rattle.set.specs.Showing.{Showing, Drawing, textShown, lineShown};
+ghost use Rattle.set.specs.Taking.{Answered, Fits, Tells};
+use crate::count::amount;
+use crate::count::holds;
+use crate::count::value_at;
+use crate::fill::put_counter;
+use crate::fill::put_variable;
+use crate::values::Values;
+use form::asked::Define;
+use form::asked::Line;
+use form::asked::line_of;
+use form::walk::line_end;
+use line::command::Command;
+use line::command::Content;
+use line::read::read_line;
+use text::write::put;
+use text::write::put_all;
+
+// A definition with its answer stays within its bounds in the first set and in a last one.
+fn define_holds(define: Define, a: &[u8], last: usize) -> bool
+    requires { ⌜ Fits define (now a) ⌝ }
+    requires { ⌜ last ≤ 65535 ⌝ }
+    ensures { λ r. ⌜ ((f : Fits define (now (a .entry))) → r ≡ holdsTo last (f .asks) (now (a .entry))) ⌝ }
+{
+    match define {
+        Define::Counter { n: _, len, step } => holds(len, step, amount(a), last),
+        Define::Variable { n: _, len: _ } => true,
+    }
+}
+
+// Every counter of a form with these answers stays within its bounds up to a last set.
+pub fn all_hold(text: &[u8], answers: &[u8], last: usize) -> bool
+    requires { ⌜ Answered (now text) (now answers) ⌝ }
+    requires { ⌜ last ≤ 65535 ⌝ }
+    ensures { λ r. ⌜ ((t : Answered (now (text .entry)) (now (answers .entry))) → r ≡ allHold last (asked (t .lines)) (t .given)) ⌝ }
+{
+    let mut at = 0;
+    let mut given = 0;
+    while at < text.len() {
+        let end = line_end(text, at);
+        let c = read_line(&text[at..end]);
+        at = end + 1;
+        let Line::Definition { define } = line_of(c) else {
+            continue;
+        };
+        let close = line_end(answers, given);
+        if !define_holds(define, &answers[given..close], last) {
+            return false;
+        }
+        given = close + 1;
+    }
+    true
+}
+
+// What is known of the values with one definition more and its answer.
+fn with_value(
+    v: Values,
+    define: Define,
+    answers: &[u8],
+    start: usize,
+    end: usize,
+    i: usize,
+) -> Values
+    requires { ⌜ (start ≤ end) × (end ≤ length (now answers)) × (i ≤ 65535) ⌝ }
+    requires { ⌜ Fits define (partOf (now answers) start end) ⌝ }
+    ensures { λ r. ⌜ ((f : Fits define (partOf (now (answers .entry)) start end)) → Tells v (now (answers .entry)) (f .asks) (partOf (now (answers .entry)) start end) i r) ⌝ }
+{
+    match define {
+        Define::Counter { n, len: _, step } => v.with_counter(
+            n,
+            value_at(step, amount(&answers[start..end]), i),
+            end - start,
+        ),
+        Define::Variable { n, len: _ } => v.with_variable(n, start, end),
+    }
+}
+
+// A text line with its value in place.
+fn put_text<'a>(
+    out: &mut [u8],
+    at: usize,
+    line: &'a [u8],
+    content: Content,
+    v: Values,
+    answers: &'a [u8],
+) -> usize
+    requires { ⌜ ((t : Showing (now line) content v (now answers)) × (at + length (textShown (now line) content v (now answers) t) ≤ length (now out))) ⌝ }
+    ensures { λ r. ⌜ ((t : Showing (now (line .entry)) content v (now (answers .entry))) → Writes (now (out .entry)) at (textShown (now (line .entry)) content v (now (answers .entry)) t) (now (out .exit)) r) ⌝ }
+{
+    match content {
+        Content::Text { string: _ } => put_all(out, at, line),
+        Content::Counter { n } => put_counter(out, at, line, 2, true, v, n),
+        Content::Variable { n } => put_variable(out, at, line, 3, true, v, n, answers),
+        Content::TextCounter { string: _, n } => put_counter(out, at, line, 3, false, v, n),
+        Content::TextVariable { string: _, n } => put_variable(
+            out,
+            at,
+            line,
+            4,
+            false,
+            v,
+            n,
+            answers,
+        ),
+    }
+}
+
+// A line of the form that draws, with its LF.
+fn put_line<'a>(
+    out: &mut [u8],
+    at: usize,
+    line: &'a [u8],
+    c: Command,
+    v: Values,
+    answers: &'a [u8],
+) -> usize
+    requires { ⌜ ((t : Drawing (now line) c v (now answers)) × (at + length (lineShown (now line) c v (now answers) t) ≤ length (now out))) ⌝ }
+    ensures { λ r. ⌜ ((t : Drawing (now (line .entry)) c v (now (answers .entry))) → Writes (now (out .entry)) at (lineShown (now (line .entry)) c v (now (answers .entry)) t) (now (out .exit)) r) ⌝ }
+{
+    let Command::Text { put: p } = c else {
+        let a = put_all(out, at, line);
+        return put(out, a, 10);
+    };
+    let content = p.content;
+    let a = put_text(out, at, line, content, v, answers);
+    put(out, a, 10)
+}

@@ -145,7 +145,7 @@ read-told width s =
     (λ y. refl)
     (λ n. by-test (Told width) (control s) _ _ (λ y. refl) (λ n. judged-told width (shape s)))
 
--- what a call gives to a bench of these forms and this session: a sane bench of a sane one, and if it refuses the same
+-- what a call gives to a bench of some forms and some session: a sane bench of a sane one, and if it refuses the same
 -- forms beside the session that this refusal leaves
 record Good (width : ℕ) (fs : List Form) (old : Session) (left : Refusal → Session) (o : Outcome) : Type 0 where
   sane : Stored width fs → Sound width fs old → Sane width (o .next)

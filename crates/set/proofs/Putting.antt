@@ -30,7 +30,7 @@ use Rattle.set.specs.Fill.{partOf}
 use Rattle.form.specs.declared.asked.Define.{Define}
 use Rattle.set.specs.Showing.{shownLine, Drawing, lineShown}
 use Rattle.set.specs.declared.values.Values.{Values}
-use Rattle.set.proofs.Telling.{Paired, told-begins}
+use Rattle.set.proofs.Telling.{Paired, value-more, told-begins}
 use Rattle.set.proofs.Giving.{fitting-paired}
 use Rattle.set.proofs.Walking.{Walk, Draws, Asks}
 
@@ -39,18 +39,6 @@ passed-all : (ts : List Bool) → Passed ts → all ts ≡ true
 unfolding all
 passed-all [] h = refl
 passed-all (t ∷ ts) h = rw (h .0, passed-all ts (h .1))
-
--- a value that is defined above shows what it shows in the whole form
-value-more : (ds more : List P.Define) (given later : List (List ℕ)) (i : ℕ) (v : P.Value) → Paired ds given → isSome (defined v ds) ≡ true
-    → valueIn ds given i v ≡ valueIn (ds ++ more) (given ++ later) i v
-unfolding defined valueIn isSome
-value-more [] more [] later i v p f = absurd (false≢true f)
-value-more [] more (b ∷ given) later i v p f = absurd p
-value-more (x ∷ ds) more [] later i v p f = absurd p
-value-more (x ∷ ds) more (b ∷ given) later i v p f =
-    either (sameValue v (valueOf x))
-    (λ y. if-true _ _ _ y ∙ sym (if-true _ _ _ y))
-    (λ n. if-false _ _ _ n ∙ value-more ds more given later i v p (ap isSome (sym (if-false _ _ _ n)) ∙ f) ∙ sym (if-false _ _ _ n))
 
 -- and so does a line that names only such values
 placed-agrees : (ds more : List P.Define) (given later : List (List ℕ)) (i : ℕ) (d : P.Draw) → Paired ds given → Passed (drawSound ds d)

@@ -1,6 +1,6 @@
 -- One definition more with its answer: what was known stays, and the new value is known too.
 use mathlib.Core.Path.{_≡_, refl, sym, _∙_, ap}
-use mathlib.Core.Bool.{Bool, true, false, _&&_}
+use mathlib.Core.Bool.{true, false, false≢true}
 use mathlib.Core.List.{List, [], _∷_, _++_}
 use mathlib.Core.Option.{Option, none, some}
 use Prim.Native.Nat.{ℕ, _≤_, _<_}
@@ -10,7 +10,7 @@ use lib.Seq.{getD-set-same, getD-set-other}
 use lib.Dec.{eqb}
 use borrow.Author.Tests.{eqb-true, eqb-false, eq-eqb}
 use Rattle.paper.specs.Command as P
-use Rattle.paper.specs.Form.{defined, valueOf, sameValue}
+use Rattle.paper.specs.Form.{defined, valueOf, sameValue, isSome}
 use Rattle.paper.specs.Byte.{decimal}
 use Rattle.paper.specs.Set.{amount, valueAt, padded, valueIn, shows}
 use Rattle.set.specs.Fill.{partOf}
@@ -26,20 +26,23 @@ Paired [] (a ∷ more) = ⊥
 Paired (d ∷ ds) [] = ⊥
 Paired (d ∷ ds) (a ∷ more) = Paired ds more
 
--- a value that is defined above shows what it showed
-pub value-stays : (ds : List P.Define) (given : List (List ℕ)) (d : P.Define) (a : List ℕ) (i : ℕ) (v : P.Value) (e : P.Define) → Paired ds given → defined v ds ≡ some e
-    → valueIn (ds ++ (d ∷ [])) (given ++ (a ∷ [])) i v ≡ valueIn ds given i v
-unfolding defined valueIn
-value-stays [] [] d a i v e p f = clash-none f
-  where
-    clash-none : {A : Type 0} → none ≡ some e → A
-    clash-none f = let z : _≡_ {A = ℕ} 0 1 = cc in absurd (omega arith)
-value-stays [] (b ∷ given) d a i v e p f = absurd p
-value-stays (x ∷ ds) [] d a i v e p f = absurd p
-value-stays (x ∷ ds) (b ∷ given) d a i v e p f =
+-- a value that is defined above shows what it shows with more definitions and answers behind
+pub value-more : (ds more : List P.Define) (given later : List (List ℕ)) (i : ℕ) (v : P.Value) → Paired ds given → isSome (defined v ds) ≡ true
+    → valueIn ds given i v ≡ valueIn (ds ++ more) (given ++ later) i v
+unfolding defined valueIn isSome
+value-more [] more [] later i v p f = absurd (false≢true f)
+value-more [] more (b ∷ given) later i v p f = absurd p
+value-more (x ∷ ds) more [] later i v p f = absurd p
+value-more (x ∷ ds) more (b ∷ given) later i v p f =
     either (sameValue v (valueOf x))
     (λ y. if-true _ _ _ y ∙ sym (if-true _ _ _ y))
-    (λ n. if-false _ _ _ n ∙ value-stays ds given d a i v e p (sym (if-false _ _ _ n) ∙ f) ∙ sym (if-false _ _ _ n))
+    (λ n. if-false _ _ _ n ∙ value-more ds more given later i v p (ap isSome (sym (if-false _ _ _ n)) ∙ f) ∙ sym (if-false _ _ _ n))
+
+-- so with one more
+value-stays : (ds : List P.Define) (given : List (List ℕ)) (d : P.Define) (a : List ℕ) (i : ℕ) (v : P.Value) (e : P.Define) → Paired ds given → defined v ds ≡ some e
+    → valueIn (ds ++ (d ∷ [])) (given ++ (a ∷ [])) i v ≡ valueIn ds given i v
+unfolding isSome
+value-stays ds given d a i v e p f = sym (value-more ds (d ∷ []) given (a ∷ []) i v p (ap isSome f))
 
 -- a value that is not defined above shows what its definition gives it
 pub value-joins : (ds : List P.Define) (given : List (List ℕ)) (d : P.Define) (a : List ℕ) (i : ℕ) (v : P.Value) → Paired ds given → defined v ds ≡ none → sameValue v (valueOf d) ≡ true

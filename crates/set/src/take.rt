@@ -3,11 +3,11 @@ ghost use Prim.Native.Nat.{_+_, _≤_};
 ghost use mathlib.Core.Path.{_≡_};
 ghost use lib.ListN.{length};
 ghost use Rattle.paper.specs.Form.{asked};
-ghost use Rattle.paper.specs.Set.{holdsTo, allHold};
+ghost use Rattle.paper.specs.Set.{holdsTo, allHold, setOf};
 ghost use Rattle.text.specs.Write.{Writes};
 ghost use Rattle.set.specs.Fill.{partOf};
 ghost use Rattle.set.specs.Showing.{Showing, Drawing, textShown, lineShown};
-ghost use Rattle.set.specs.Taking.{Answered, Fits, Tells};
+ghost use Rattle.set.specs.Taking.{Answered, Taking, Fits, Tells};
 use crate::count::amount;
 use crate::count::holds;
 use crate::count::value_at;
@@ -23,6 +23,7 @@ use line::command::Content;
 use line::read::read_line;
 use text::write::put;
 use text::write::put_all;
+use text::write::put_decimal;
 
 // A definition with its answer stays within its bounds in the first set and in a last one.
 fn define_holds(define: Define, a: &[u8], last: usize) -> bool
@@ -132,4 +133,38 @@ fn put_line<'a>(
     let content = p.content;
     let a = put_text(out, at, line, content, v, answers);
     put(out, a, 10)
+}
+
+// Set i at the front of a buffer with room for the longest; its length.
+pub fn put_set<'a>(
+    out: &mut [u8],
+    text: &'a [u8],
+    answers: &'a [u8],
+    copies: usize,
+    i: usize,
+) -> usize
+    requires { ⌜ Taking (now text) (now answers) copies i ⌝ }
+    requires { ⌜ 10291 ≤ length (now out) ⌝ }
+    ensures { λ r. ⌜ ((t : Taking (now (text .entry)) (now (answers .entry)) copies i) → Writes (now (out .entry)) 0 (setOf (t .form .lines) (t .form .given) copies i) (now (out .exit)) r) ⌝ }
+{
+    let mut v = Values::new();
+    let mut next = put_all(out, 0, b"N\n");
+    let mut at = 0;
+    let mut given = 0;
+    while at < text.len() {
+        let end = line_end(text, at);
+        let line = &text[at..end];
+        let c = read_line(line);
+        at = end + 1;
+        let Line::Definition { define } = line_of(c) else {
+            next = put_line(out, next, line, c, v, answers);
+            continue;
+        };
+        let close = line_end(answers, given);
+        v = with_value(v, define, answers, given, close, i);
+        given = close + 1;
+    }
+    let a = put_all(out, next, b"P1,");
+    let b = put_decimal(out, a, copies);
+    put(out, b, 10)
 }

@@ -1,1 +1,15 @@
 pub mod Naming
+pub mod Held
+pub mod Refusing
+pub mod Answering
+pub mod Entries
+pub mod Used
+pub mod Printed
+pub mod Lending
+pub mod Heeding
+pub mod Finding
+pub mod Filing
+pub mod Collecting
+pub mod Room
+pub mod Behind
+pub mod Calling

@@ -1,10 +1,11 @@
 -- A call of the bench: what a step gives is what the paper's call gives, and leads on to a bench that calls lead to.
-use Prim.Native.Nat.{ℕ}
+use Prim.Native.Nat.{ℕ, _-_, _≤_}
 use mathlib.Core.Path.{_≡_, refl, sym, _∙_, ap}
-use mathlib.Core.Bool.{true, false}
 use mathlib.Core.List.{List, [], _∷_}
+use native.Mathlib.Omega.{arith}
 use lib.ListN.{length}
 use Rattle.paper.specs.Bench as P
+use Rattle.paper.specs.Program.{toTake}
 use Rattle.paper.specs.State.{Led, begun, hearing, taking}
 use Rattle.paper.proofs.Invariant.{led-sane}
 use Rattle.line.specs.View.{width}
@@ -13,13 +14,14 @@ use Rattle.store.specs.Packed.{packed}
 use Rattle.store.specs.declared.Store.{Store}
 use Rattle.bench.specs.Memory.{memory, entriesOf, packedSession, packedStore}
 use Rattle.bench.specs.Outcome.{At, Does, Hears, Takes}
-use Rattle.bench.specs.Call.{packedBench, Reached, Gives, isPrinting}
+use Rattle.bench.specs.Call.{packedBench, Reached, Gives}
 use Rattle.bench.specs.declared.state.Mode.the-variants as M
 use Rattle.bench.specs.declared.state.Session.{Session}
 use Rattle.bench.specs.declared.state.Step.{Step}
 use Rattle.bench.specs.declared.Bench.{Bench}
 use Rattle.bench.specs.declared.Heard.{Heard}
-use Rattle.bench.proofs.Held.{Tagged, wrong, seen}
+use Rattle.bench.proofs.Held.{Tagged, wrong}
+use Rattle.bench.proofs.Printed.{prints, printed-within}
 
 -- a bench that calls lead to is in memory as all its promises want it
 unfoldable pub reached-at : (self : Bench) → Reached self → At (self .session) (self .store)
@@ -72,17 +74,21 @@ module _ (self : Bench) (old new : List ℕ) (step : Step) (r : Heard)
   pub takes-reached : Takes (self .session) (self .store) old new step → Reached self → Reached (r .bench)
   takes-reached h k = record { paper = P.takeSet (length old) (k .paper) .next; led = taking (k .led) (length old); is = takes-gives h k .bench }
 
--- sets are left
-pub is-printing : (self : Bench) → Tagged (6 ∷ []) (self .session) → (k : Reached self) → true ≡ isPrinting (k .paper .session)
-unfolding packedBench isPrinting
-is-printing self h k = rw (seen 6 (self .session) (k .paper .session) (ap (λ b. b .session) (k .is)) h .is)
+-- the sets that are out are no more than those asked for
+pub left-within : (self : Bench) → Reached self → (sets copies out : ℕ) → self .session .mode ≡ M.Printing sets copies out → out ≤ sets
+left-within self k sets copies out e = omega (arith, printed-within (self .session) (self .store) sets copies out e (reached-at self k))
 
--- none is
-pub is-not-printing : (self : Bench) → Tagged (0 ∷ 1 ∷ 2 ∷ 3 ∷ 4 ∷ 5 ∷ []) (self .session) → (k : Reached self) → false ≡ isPrinting (k .paper .session)
-unfolding packedBench packedSession memory isPrinting
-is-not-printing self h k = by (k .paper .session) (ap (λ b. b .session) (k .is))
+-- those that are left
+pub left-printing : (self : Bench) (sets copies out : ℕ) → self .session .mode ≡ M.Printing sets copies out → (k : Reached self) → sets - out ≡ toTake (k .paper .session)
+unfolding packedBench toTake
+left-printing self sets copies out e k = rw (prints (self .session) (k .paper .session) sets copies out (ap (λ b. b .session) (k .is)) e .is)
+
+-- none is left where none is printed
+pub left-none : (self : Bench) → Tagged (0 ∷ 1 ∷ 2 ∷ 3 ∷ 4 ∷ 5 ∷ []) (self .session) → (k : Reached self) → 0 ≡ toTake (k .paper .session)
+unfolding packedBench packedSession memory toTake
+left-none self h k = by (k .paper .session) (ap (λ b. b .session) (k .is))
   where
-    by : (st : P.Session) → self .session ≡ packedSession st → false ≡ isPrinting st
+    by : (st : P.Session) → self .session ≡ packedSession st → 0 ≡ toTake st
     by P.idle e = refl
     by (P.collecting name ls) e = refl
     by P.spoiled e = refl

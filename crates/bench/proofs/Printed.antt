@@ -131,10 +131,10 @@ replies-not bytes old new answer why session store fs stay go m e f g = by (leb 
     by false q = rw (q, if-false) (record { meets = rw (q, if-false) at m; session = f; store = g })
 
 -- a session that prints so many sets
-record Prints (st : P.Session) (sets copies out : ℕ) : Type 0 where
-  lines : List FormLine
-  given : List (List ℕ)
-  is : st ≡ P.printing lines given sets copies out
+pub record Prints (st : P.Session) (sets copies out : ℕ) : Type 0 where
+  pub lines : List FormLine
+  pub given : List (List ℕ)
+  pub is : st ≡ P.printing lines given sets copies out
 
 -- the same numbers in memory are the same on paper
 same-numbers : (ls : List FormLine) (given : List (List ℕ)) (n c i sets copies out : ℕ) → M.Printing n c i ≡ M.Printing sets copies out
@@ -146,7 +146,7 @@ same-numbers ls given n c i sets copies out e =
     rw (a, b, d)
 
 -- what is printed, by its memory
-prints : (session : Session) (st : P.Session) (sets copies out : ℕ) → session ≡ packedSession st → session .mode ≡ M.Printing sets copies out → Prints st sets copies out
+pub prints : (session : Session) (st : P.Session) (sets copies out : ℕ) → session ≡ packedSession st → session .mode ≡ M.Printing sets copies out → Prints st sets copies out
 unfolding packedSession memory
 prints session st sets copies out e h =
     let p = seen 6 session st e (ap (tagOf Mode.the-type) h) in
@@ -184,8 +184,12 @@ module _ (session : Session) (store : Store) (sets copies out : ℕ) (h : sessio
       }
 
   -- and one is left
+  pub printed-within : At session store → out < sets
+  printed-within a = let s = sane-at session store a _ (printed a .is) in s .session .2 .left
+
+  -- of not too many
   pub printed-left : At session store → out < 65535
-  printed-left a = let p = printed-taking a .printing in omega (arith, p .left, p .counted)
+  printed-left a = let s = sane-at session store a _ (printed a .is) in omega (arith, s .session .2 .left, s .session .2 .counted)
 
   module _ (old new : List ℕ) (answer : Answer)
       (m : (t : Taking (take (session .size) (session .text)) (take (session .given) (session .answers)) copies out)

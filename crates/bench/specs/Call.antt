@@ -1,7 +1,6 @@
 -- What a call of the bench promises, from a bench that calls lead to.
 use Prim.Native.Nat.{ℕ}
 use mathlib.Core.Path.{_≡_}
-use mathlib.Core.Bool.{Bool, true, false}
 use mathlib.Core.List.{List}
 use Rattle.paper.specs.Bench as P
 use Rattle.paper.specs.State.{Led}
@@ -25,13 +24,3 @@ pub record Reached (self : Bench) : Type 0 where
 pub record Gives (o : P.Outcome) (old new : List ℕ) (r : Heard) : Type 0 where
   pub meets : Meets (o .answer) old new (r .answer)
   pub bench : r .bench ≡ packedBench (o .next)
-
--- sets are left to be taken
-unfoldable pub isPrinting : P.Session → Bool
-isPrinting P.idle = false
-isPrinting (P.collecting name ls) = false
-isPrinting P.spoiled = false
-isPrinting (P.opened ls) = false
-isPrinting (P.answering ls given) = false
-isPrinting (P.ready ls given) = false
-isPrinting (P.printing ls given n c i) = true

@@ -2,8 +2,9 @@
 ghost use mathlib.Core.Path.{_≡_};
 ghost use lib.ListN.{length};
 ghost use Rattle.paper.specs.Bench as P;
+ghost use Rattle.paper.specs.Program.{toTake};
 ghost use Rattle.line.specs.View.{width};
-ghost use Rattle.bench.specs.Call.{Reached, Gives, packedBench, isPrinting};
+ghost use Rattle.bench.specs.Call.{packedBench, Reached, Gives};
 
 pub mod answer;
 pub mod collect;
@@ -78,20 +79,20 @@ impl Bench {
         called(take(self.session, self.store, set))
     }
 
-    // Sets are left to be taken.
-    pub fn is_printing(self) -> bool
+    // The sets that are left to be taken.
+    pub fn sets_left(self) -> usize
         requires { ⌜ Reached self ⌝ }
-        ensures { λ r. ⌜ ((k : Reached self) → r ≡ isPrinting (k .paper .session)) ⌝ }
+        ensures { λ r. ⌜ ((k : Reached self) → r ≡ toTake (k .paper .session)) ⌝ }
     {
         let session = self.session;
         let mode = session.mode;
         match mode {
             Mode::Printing {
-                sets: _,
+                sets,
                 copies: _,
-                out: _,
-            } => true,
-            _ => false,
+                out,
+            } => sets - out,
+            _ => 0,
         }
     }
 }

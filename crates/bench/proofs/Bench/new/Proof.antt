@@ -5,9 +5,4 @@ use Rattle.bench.proofs.Bench.new.Statement.{statement}
 use Rattle.bench.proofs.Bench.new.Tie as tie
 
 pub new-spec : {M : Type 1} → statement M
-new-spec =
-    tie.close
-    (tie.spec
-    (λ c κs. search needs)
-    (λ c κs. search needs)
-    (λ c. let b = begins _ _ (c .before .fresh .ensures) (c .new .ensures) in (begins-reached _ b, b)))
+new-spec = tie.close (tie.spec (λ c κs. search needs) (λ c κs. search needs) (λ c. (search (begins-reached, begins), search begins)))

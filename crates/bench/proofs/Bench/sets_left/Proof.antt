@@ -1,4 +1,6 @@
 -- By the state.
+use Prim.Native.Nat.{_≤_}
+use native.Mathlib.Omega.{arith}
 use borrow.Author.Needs.{needs}
 use Rattle.bench.proofs.Calling.{left-within, left-printing, left-none}
 use Rattle.bench.proofs.Bench.sets_left.Statement.{statement}
@@ -9,6 +11,6 @@ sets-left-spec =
     tie.close
     (tie.spec
     (λ c. search needs)
-    (λ c. search left-within)
+    (λ c. let within : c .before .mode .given .0 .1 .1 .0 ≤ c .before .mode .given .0 .0 = search left-within in omega arith)
     (λ c. search left-printing)
     (λ c. search left-none))

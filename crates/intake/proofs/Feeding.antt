@@ -66,11 +66,10 @@ ahead input i h = rw (add-one) (drop-cons input i 0 h)
 
 -- so it is whatever waited at the start
 pub record Goes (input : List ℕ) (at : ℕ) (first intake : Intake) (i : ℕ) : Type 0 where
-  pub inside : i ≤ length input
   pub go : (w : List ℕ) → first ≡ held w → Going input (feed w (from input at)) intake i
 
-pub goes-begins : (input : List ℕ) (at : ℕ) (first : Intake) → at ≤ length input → Goes input at first first at
-goes-begins input at first h = record { inside = h; go = λ w e. record { waiting = w; is = e; left = refl } }
+pub goes-begins : (input : List ℕ) (at : ℕ) (first : Intake) → Goes input at first first at
+goes-begins input at first = record { go = λ w e. record { waiting = w; is = e; left = refl } }
 
 -- a line ends
 pub goes-line : (input : List ℕ) (at : ℕ) (first intake : Intake) (i : ℕ) → Goes input at first intake i → i < length input → getD input i 0 ≡ 10
@@ -88,7 +87,6 @@ drops : (input : List ℕ) (at : ℕ) (first intake : Intake) (i : ℕ) → Goes
 unfolding feed
 drops input at first intake i g h n d =
     record {
-      inside = omega arith;
       go = λ w e.
           let now′ = g .go w e in
           record {
@@ -115,7 +113,6 @@ pub goes-on : (input : List ℕ) (at : ℕ) (first intake r : Intake) (i : ℕ) 
 unfolding feed isDropped
 goes-on input at first intake r i g h n m k more =
     record {
-      inside = omega arith;
       go = λ w e.
           let now′ = g .go w e in
           record {
@@ -130,9 +127,9 @@ goes-on input at first intake r i g h n m k more =
 
 -- the piece ends
 pub goes-waits : (input : List ℕ) (at : ℕ) (first intake : Intake) (i : ℕ) → Goes input at first intake i → length input ≤ i
-    → (w : List ℕ) → first ≡ held w → Feeds input (feed w (from input at)) (record { intake = intake; next = i; ended = false })
+    → (w : List ℕ) → first ≡ held w → Feeds input (feed w (from input at)) (record { intake = intake; next = length input; ended = false })
 unfolding feed Feeds from
 goes-waits input at first intake i g h w e =
     let now′ = g .go w e in
     let is : feed w (from input at) ≡ waits (now′ .waiting) = now′ .left ∙ rw (drop-of-length-le input {i = i} h) in
-    rw is (now′ .is, refl, omega (arith, g .inside))
+    rw is (now′ .is, refl, refl)

@@ -1,9 +1,8 @@
 // Waiting bytes: input comes in any pieces, and lines go out. CR and 1AH are dropped, and of a line only as much is kept as
 // its refusal needs.
-ghost use Prim.Native.Nat.{ℕ, _+_, _≤_};
+ghost use Prim.Native.Nat.{ℕ};
 ghost use mathlib.Core.Path.{_≡_};
 ghost use mathlib.Core.List.{List, [], _∷_, _++_};
-ghost use lib.ListN.{length};
 ghost use Rattle.text.specs.Place.{from};
 ghost use Rattle.intake.specs.Waiting.{held, Feeds, feed};
 
@@ -46,7 +45,6 @@ impl Intake {
 
     // Takes input from a place on, up to the end of a line or of the piece.
     pub fn feed(self, input: &[u8], at: usize) -> Fed
-        requires { ⌜ at ≤ length (now input) ⌝ }
         ensures { λ r. ⌜ ((w : List ℕ) → self ≡ held w → Feeds (now (input .entry)) (feed w (from (now (input .entry)) at)) r) ⌝ }
     {
         let mut intake = self;
@@ -71,7 +69,7 @@ impl Intake {
         }
         Fed {
             intake,
-            next: i,
+            next: input.len(),
             ended: false,
         }
     }

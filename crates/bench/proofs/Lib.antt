@@ -13,3 +13,4 @@ pub mod Collecting
 pub mod Room
 pub mod Behind
 pub mod Calling
+pub mod Demand

@@ -1,3 +1,4 @@
 pub mod Memory
 pub mod Outcome
 pub mod Call
+pub mod Runs

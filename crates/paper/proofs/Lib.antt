@@ -16,3 +16,5 @@ pub mod Shown
 pub mod Filled
 pub mod SetOf
 pub mod Cases
+pub mod Printed
+pub mod Home

@@ -9,3 +9,4 @@ pub mod Set
 pub mod Bench
 pub mod Program
 pub mod State
+pub mod Calls

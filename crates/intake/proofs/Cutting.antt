@@ -3,7 +3,9 @@
 use mathlib.Core.Path.{_≡_, refl, sym, _∙_, ap}
 use mathlib.Core.Bool.{Bool, true, false, not, _&&_}
 use mathlib.Core.List.{List, [], _∷_, _++_, append-assoc, append-nil}
-use Prim.Native.Nat.{ℕ}
+use Prim.Native.Nat.{ℕ, _≤_}
+use native.Mathlib.Omega.{arith}
+use lib.ListN.{length, length-drop}
 use lib.Dec.{eqb}
 use borrow.Author.Tests.{not-true, eqb-true}
 use Rattle.paper.specs.Byte.{if_then_else_, every}
@@ -11,7 +13,10 @@ use Rattle.paper.specs.Line.{lf, isDropped, kept, infront, cut}
 use Rattle.paper.proofs.Law.{if-true, if-false, by-test, and-left, and-right, and-both}
 use Rattle.paper.proofs.Test.{either}
 use Rattle.paper.proofs.Text.{every-append}
-use Rattle.intake.specs.Waiting.{Piece, line, waits, feed}
+use Rattle.text.specs.Place.{from}
+use Rattle.intake.specs.Waiting.{held, Piece, line, waits, feed, Feeds}
+use Rattle.intake.specs.declared.Intake.{Intake}
+use Rattle.intake.specs.declared.Fed.{Fed}
 
 -- a byte that does not end a line
 abbrev inside : ℕ → Bool
@@ -87,3 +92,27 @@ feed-on (b ∷ s) t w = go (feed-on s t w) (feed-on s t (w ++ (b ∷ [])))
     go dropped joined = either (eqb b lf)
         (λ y. rw y refl)
         (λ n. either (isDropped b) (λ d. rw (n, d) dropped) (λ k. rw (n, k) joined))
+
+-- places that leave the same are one
+same-place : (input : List ℕ) (i j : ℕ) → i ≤ length input → j ≤ length input → from input i ≡ from input j → i ≡ j
+unfolding from
+same-place input i j h k e = omega (arith, h, k, length-drop i input, length-drop j input, ap length e)
+
+-- an answer by its parts
+fed : {r r′ : Fed} → r .intake ≡ r′ .intake → r .next ≡ r′ .next → r .ended ≡ r′ .ended → r ≡ r′
+fed {r} {r′} a b c = λ i. record { intake = a i; next = b i; ended = c i }
+
+-- one piece of input has one answer
+feeds-one : (input : List ℕ) (piece : Piece) (r r′ : Fed) → Feeds input piece r → Feeds input piece r′ → r ≡ r′
+unfolding Feeds
+feeds-one input (line w rest) r r′ p q =
+    let a : r .intake ≡ r′ .intake = p .0 ∙ sym (q .0) in
+    let b : r .ended ≡ r′ .ended = p .1 ∙ sym (q .1) in
+    let c : r .next ≡ r′ .next = same-place input (r .next) (r′ .next) (p .3) (q .3) (p .2 ∙ sym (q .2)) in
+    fed a c b
+feeds-one input (waits w) r r′ p q = fed (p .0 ∙ sym (q .0)) (p .2 ∙ sym (q .2)) (p .1 ∙ sym (q .1))
+
+-- `feed` has one outcome
+pub feed-unique : (self : Intake) (w input : List ℕ) (at : ℕ) (r r′ : Fed) → self ≡ held w
+    → ((w : List ℕ) → self ≡ held w → Feeds input (feed w (from input at)) r) → ((w : List ℕ) → self ≡ held w → Feeds input (feed w (from input at)) r′) → r ≡ r′
+feed-unique self w input at r r′ e p q = feeds-one input (feed w (from input at)) r r′ (p w e) (q w e)

@@ -202,26 +202,34 @@ module _ (session : Session) (store : Store) (sets copies out : ℕ) (h : sessio
           takes = λ a. rw (printed a .is) (replies-not _ old new answer why session store (a .forms) _ _ (m (printed-taking a)) e (printed-here a) (a .there));
         }
 
-    -- the last set
-    pub takes-last : (len : ℕ) (r : Session) → answer ≡ A.Accepted len → out + 1 ≡ sets → r ≡ memory M.Idle [] [] [] → Takes session store old new (record { answer = answer; session = r; store = store })
-    unfolding P.taken P.afterSet printed-taking packedSession
-    takes-last len r e l f =
-        let last : eqb (suc out) sets ≡ true = eq-eqb (suc out) sets (omega arith) in
+    -- and one that has: the session goes on
+    pub takes-set : (len : ℕ) (r : Session) → answer ≡ A.Accepted len
+        → ((ls : List FormLine) (given : List (List ℕ)) → session ≡ packedSession (P.printing ls given sets copies out) → r ≡ packedSession (P.afterSet ls given sets copies out))
+        → Takes session store old new (record { answer = answer; session = r; store = store })
+    unfolding P.taken printed-taking
+    takes-set len r e f =
         record {
-          takes = λ a. rw (printed a .is, last, if-true) (replies-on _ old new answer len r store (a .forms) _ P.idle (m (printed-taking a)) e f (a .there));
+          takes = λ a. rw (printed a .is)
+              (replies-on _ old new answer len r store (a .forms) _ _ (m (printed-taking a)) e (f _ _ (printed-here a)) (a .there));
         }
 
-    -- a set with others behind it
-    pub takes-next : (len : ℕ) (r : Session) → answer ≡ A.Accepted len → (out + 1 ≡ sets → ⊥)
-        → ((m : Mode) (name text answers : List ℕ) → session ≡ memory m name text answers → r ≡ memory (M.Printing sets copies (out + 1)) name text answers)
-        → Takes session store old new (record { answer = answer; session = r; store = store })
-    unfolding P.taken P.afterSet printed-taking packedSession
-    takes-next len r e l f =
-        let one : out + 1 ≡ suc out = omega arith in
-        let more : eqb (suc out) sets ≡ false = ne-eqb (suc out) sets (λ q. l (one ∙ q)) in
-        record {
-          takes = λ a. rw (printed a .is, more, if-false) (replies-on _ old new answer len r store (a .forms) _ (P.printing (printed a .lines) (printed a .given) sets copies (suc out)) (m (printed-taking a)) e (f _ _ _ _ (printed-here a) ∙ rw one) (a .there));
-        }
+-- after the last set Idle
+pub goes-idle : (session r : Session) (sets copies out : ℕ) → out + 1 ≡ sets → r ≡ memory M.Idle [] [] [] → (ls : List FormLine) (given : List (List ℕ))
+    → session ≡ packedSession (P.printing ls given sets copies out) → r ≡ packedSession (P.afterSet ls given sets copies out)
+unfolding P.afterSet packedSession
+goes-idle session r sets copies out l f ls given e =
+    let last : eqb (suc out) sets ≡ true = eq-eqb (suc out) sets (omega arith) in
+    rw (last, if-true) f
+
+-- else one set more is out
+pub goes-onward : (session r : Session) (sets copies out : ℕ) → (out + 1 ≡ sets → ⊥)
+    → ((m : Mode) (name text answers : List ℕ) → session ≡ memory m name text answers → r ≡ memory (M.Printing sets copies (out + 1)) name text answers)
+    → (ls : List FormLine) (given : List (List ℕ)) → session ≡ packedSession (P.printing ls given sets copies out) → r ≡ packedSession (P.afterSet ls given sets copies out)
+unfolding P.afterSet packedSession
+goes-onward session r sets copies out l f ls given e =
+    let one : out + 1 ≡ suc out = omega arith in
+    let more : eqb (suc out) sets ≡ false = ne-eqb (suc out) sets (λ q. l (one ∙ q)) in
+    rw (more, if-false) (f _ _ _ _ e ∙ rw one)
 
 -- a take where nothing is printed
 pub takes-nothing : (session : Session) (store : Store) (r : Step) (b : List ℕ) → Tagged (0 ∷ 1 ∷ 2 ∷ 3 ∷ 4 ∷ 5 ∷ []) session

@@ -1,12 +1,14 @@
 // Printing: `P`, and the taking of a set.
-ghost use Prim.Native.Nat.{ℕ, _≤_};
+ghost use Prim.Native.Nat.{ℕ, _≤_, _<_};
 ghost use mathlib.Core.Path.{_≡_};
 ghost use mathlib.Core.List.{List};
 ghost use lib.ListN.{length};
+ghost use Rattle.paper.specs.Bench as P;
 ghost use Rattle.paper.specs.Command as C;
 ghost use Rattle.paper.specs.Set.{setOf};
 ghost use Rattle.line.specs.Normal.{Meets};
 ghost use Rattle.set.specs.Taking.{Taking};
+ghost use Rattle.bench.specs.Memory.{packedSession};
 ghost use Rattle.bench.specs.Outcome.{At, Obeys, Takes, handed};
 ghost use Rattle.bench.specs.declared.state.Mode.the-variants as M;
 use crate::reply::hand;
@@ -69,7 +71,26 @@ fn give<'a>(buf: &mut [u8], text: &'a [u8], answers: &'a [u8], copies: usize, i:
     hand(buf, &out[..n])
 }
 
-// The next set, and Idle after the last.
+// The session after a set: Idle after the last, else with one set more out.
+fn onward(session: Session, sets: usize, copies: usize, out: usize) -> Session
+    requires { ⌜ out < 65535 ⌝ }
+    ensures { λ r. ⌜ ((ls : List C.FormLine) (given : List (List ℕ)) → session ≡ packedSession (P.printing ls given sets copies out) → r ≡ packedSession (P.afterSet ls given sets copies out)) ⌝ }
+{
+    let next = out + 1;
+    if next == sets {
+        return fresh(Mode::Idle);
+    }
+    moved(
+        session,
+        Mode::Printing {
+            sets,
+            copies,
+            out: next,
+        },
+    )
+}
+
+// The next set, if it has room.
 fn next_set(
     session: Session,
     store: Store,
@@ -94,21 +115,9 @@ fn next_set(
             store,
         };
     };
-    if out + 1 == sets {
-        return Step {
-            answer,
-            session: fresh(Mode::Idle),
-            store,
-        };
-    }
-    let next = Mode::Printing {
-        sets,
-        copies,
-        out: out + 1,
-    };
     Step {
         answer,
-        session: moved(session, next),
+        session: onward(session, sets, copies, out),
         store,
     }
 }

@@ -1,9 +1,8 @@
--- A set that has room is out; the last leads to Idle.
-use Prim.Native.Nat.{_<_}
+-- A set that has room is out.
 use native.Mathlib.Omega.{arith}
 use borrow.Author.Needs.{needs}
 use Rattle.bench.proofs.Used.{text-within, answers-within, text-size, answers-size}
-use Rattle.bench.proofs.Printed.{printed-taking, printed-left, takes-short, takes-last, takes-next}
+use Rattle.bench.proofs.Printed.{printed-taking, printed-left, takes-short, takes-set}
 use Rattle.bench.proofs.print.next_set.Statement.{statement}
 use Rattle.bench.proofs.print.next_set.Tie as tie
 
@@ -20,11 +19,6 @@ next-set-spec =
     (λ c. search needs)
     (λ c. search needs)
     (λ c. search takes-short)
-    (λ c. let few : c .before .before .before .before .before .before .before .before .before .before .before .args .out < 65535 = search printed-left in omega arith)
-    (λ c κs. search needs)
+    (λ c κs. search printed-left)
     (λ c. search needs)
-    (λ c. search takes-last)
-    (λ c. let few : c .before .before .before .before .before .before .before .before .before .before .before .before .args .out < 65535 = search printed-left in omega arith)
-    (λ c κs. search needs)
-    (λ c. search needs)
-    (λ c. search takes-next))
+    (λ c. search takes-set))

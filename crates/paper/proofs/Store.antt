@@ -27,10 +27,6 @@ unfolding same
 same-self [] = refl
 same-self (b ∷ s) = and-both _ _ (eq-eqb b b refl) (same-self s)
 
--- texts that pass as different are different
-pub same-apart : (s t : List ℕ) → same s t ≡ false → s ≡ t → ⊥
-same-apart s t e p = clash (rw p (same-self t)) e
-
 -- the order of two texts does not matter
 pub same-sym : (s t : List ℕ) → same s t ≡ same t s
 same-sym s t = agree (same s t) (same t s) (turned s t) (turned t s)
@@ -92,11 +88,6 @@ without-append name (x ∷ xs) ys =
     either (same name (x .name))
     (λ y. rw y (without-append name xs ys))
     (λ n. rw n (ap (λ r. x ∷ r) (without-append name xs ys)))
-
--- and it drops a form of the name and keeps a form of another
-pub without-one : (name : List ℕ) (f : Form) → without name (f ∷ []) ≡ (if same name (f .name) then [] else (f ∷ []))
-unfolding without
-without-one name f = refl
 
 -- deleting an absent name deletes nothing
 pub without-absent : (name : List ℕ) (fs : List Form) → find name fs ≡ none → without name fs ≡ fs

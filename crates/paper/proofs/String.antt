@@ -60,6 +60,3 @@ escape-clear (b ∷ s) e =
 pub quoted-clear : (s : List ℕ) → every clear s ≡ true → every clear (quoted s) ≡ true
 unfolding quoted every
 quoted-clear s e = rw (every-append, escape-clear s e)
-
-pub quoted-control : (s : List ℕ) → every clear s ≡ true → control (quoted s) ≡ false
-quoted-control s e = clear-control (quoted s) (quoted-clear s e)

@@ -34,13 +34,6 @@ writes-behind : (old : List ℕ) (at : ℕ) (bytes new : List ℕ) (next n : ℕ
 writes-behind old at bytes new next n w =
     sym (drop-drop n next new) ∙ rw (writes-drop old at bytes new next w) (drop-drop n next old)
 
--- and so do those before the place
-pub writes-front : (old : List ℕ) (at : ℕ) (bytes new : List ℕ) (next : ℕ) → Writes old at bytes new next → take at new ≡ take at old
-writes-front old at bytes new next w =
-    sym (take-take at next new (omega (arith, w .ends)))
-    ∙ rw (writes-take old at bytes new next w)
-    (take-append-le at (take at old) bytes (rw (length-take-le at old (omega (arith, w .ends, w .room))) (omega arith)) ∙ take-take at at old (omega arith))
-
 -- a write keeps the buffer's length
 pub writes-length : (old : List ℕ) (at : ℕ) (bytes new : List ℕ) (next : ℕ) → Writes old at bytes new next → length new ≡ length old
 unfolding written

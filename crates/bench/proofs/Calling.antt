@@ -1,15 +1,14 @@
 -- A call of the bench: what a step gives is what the paper's call gives, and leads on to a bench that calls lead to.
 use Prim.Native.Nat.{ℕ, _-_, _≤_}
-use mathlib.Core.Path.{_≡_, refl, sym, _∙_, ap}
+use mathlib.Core.Path.{_≡_, refl, _∙_, ap}
 use mathlib.Core.List.{List, [], _∷_}
 use native.Mathlib.Omega.{arith}
 use lib.ListN.{length}
 use Rattle.paper.specs.Bench as P
 use Rattle.paper.specs.Program.{toTake}
-use Rattle.paper.specs.State.{Led, begun, hearing, taking}
+use Rattle.paper.specs.State.{begun, hearing, taking}
 use Rattle.paper.proofs.Invariant.{led-sane}
 use Rattle.line.specs.View.{width}
-use Rattle.line.specs.declared.command.Answer.{Answer}
 use Rattle.store.specs.Packed.{packed}
 use Rattle.store.specs.declared.Store.{Store}
 use Rattle.bench.specs.Memory.{memory, entriesOf, packedSession, packedStore}

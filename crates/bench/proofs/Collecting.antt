@@ -7,7 +7,6 @@ use mathlib.Core.Option.{Option, none, some}
 use native.Mathlib.Omega.{arith}
 use denote.Enum.Declared.{tagOf}
 use lib.ListN.{length, take, length-append, length-take}
-use lib.Seq.{take-append-seam}
 use lib.Dec.{leb, ltb}
 use borrow.Author.Tests.{leb-true, ltb-true, le-leb, not-true, not-false}
 use Rattle.paper.specs.Command.{Define, FormLine, all, keep, file, finish}

@@ -1,19 +1,18 @@
 -- The forms as the store holds them: as many, with as many bytes of text, under names of at most sixteen bytes.
-use Prim.Native.Nat.{ℕ, suc, _+_, _≤_}
-use mathlib.Core.Path.{_≡_, refl, sym, _∙_, ap}
-use mathlib.Core.Bool.{true, _&&_}
-use mathlib.Core.List.{List, [], _∷_, _++_}
-use native.Mathlib.Omega.{arith}
+use Prim.Native.Nat.{ℕ, suc, _≤_}
+use mathlib.Core.Path.{_≡_, refl, ap}
+use mathlib.Core.Bool.{true}
+use mathlib.Core.List.{List, [], _∷_}
 use lib.ListN.{length, length-append}
 use lib.Dec.{leb}
 use borrow.Author.Tests.{leb-true}
 use Rattle.paper.specs.Byte.{every}
 use Rattle.paper.specs.Command.{isName, isNameByte}
-use Rattle.paper.specs.Form.{Form, textOf, used}
+use Rattle.paper.specs.Form.{Form, used}
 use Rattle.paper.specs.State.{AllStored, Stored}
 use Rattle.paper.proofs.Law.{and-left, and-right}
 use Rattle.line.specs.View.{width}
-use Rattle.store.specs.Packed.{Entry, entry, textsOf, Short, Kept}
+use Rattle.store.specs.Packed.{entry, textsOf, Short, Kept}
 use Rattle.store.specs.declared.Store.{Store}
 use Rattle.bench.specs.Memory.{entriesOf, packedStore}
 

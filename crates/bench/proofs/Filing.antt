@@ -1,5 +1,5 @@
 -- The lines to the store in Idle.
-use Prim.Native.Nat.{ℕ, _+_, _-_, _≤_, _<_}
+use Prim.Native.Nat.{ℕ, _+_, _-_, _≤_}
 use mathlib.Core.Path.{_≡_, refl, sym, _∙_, ap}
 use mathlib.Core.Bool.{true, false, _&&_, _||_}
 use mathlib.Core.List.{List, [], _∷_}
@@ -7,7 +7,7 @@ use native.Mathlib.Omega.{arith}
 use lib.ListN.{length, take, drop, getD, replicate}
 use lib.Seq.{length-take-le, take-append-seam}
 use lib.Dec.{leb}
-use borrow.Author.Tests.{le-leb, lt-leb, leb-true}
+use borrow.Author.Tests.{leb-true}
 use Rattle.paper.specs.Byte.{if_then_else_, bytes, between, every, any, among, same}
 use Rattle.paper.specs.Line.{isDigit}
 use Rattle.paper.specs.Command.{Define, FormLine, draw, define, start, inform, recall, delete, file, isName, isNameByte, star}
@@ -16,11 +16,11 @@ use Rattle.paper.specs.Refusal as R
 use Rattle.paper.specs.State.{Stored, allIn}
 use Rattle.paper.specs.Write.{linesText}
 use Rattle.paper.specs.Bench as P
-use Rattle.paper.proofs.Law.{if-true, if-false, and-left, and-right}
+use Rattle.paper.proofs.Law.{and-left, and-right}
 use Rattle.paper.proofs.Test.{either, clash}
 use Rattle.paper.proofs.Text.{same-eq}
 use Rattle.line.specs.View.{width, refusalOf, textIn}
-use Rattle.line.specs.Normal.{Reports, Meets}
+use Rattle.line.specs.Normal.{Meets}
 use Rattle.line.specs.declared.command.Answer.{Answer}
 use Rattle.line.specs.declared.command.Answer.the-variants as A
 use Rattle.line.specs.declared.command.Refusal.the-variants as W
@@ -29,7 +29,7 @@ use Rattle.form.specs.declared.asked.Next.{Next}
 use Rattle.form.specs.declared.asked.Next.the-variants as N
 use Rattle.form.specs.declared.asked.Define as D
 use Rattle.text.specs.Place.{from}
-use Rattle.text.specs.Write.{Writes, written, padded}
+use Rattle.text.specs.Write.{Writes, padded}
 use Rattle.text.specs.declared.read.Span.{Span}
 use Rattle.text.proofs.Padded.{padded-length, padded-write}
 use Rattle.text.proofs.Written.{writes-take, writes-length}

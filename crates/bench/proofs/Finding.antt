@@ -9,17 +9,16 @@ use lib.Seq.{take-append-seam, drop-append-seam}
 use Rattle.paper.specs.Byte.{if_then_else_, same}
 use Rattle.paper.specs.Command.{FormLine}
 use Rattle.paper.specs.Form.{Form, textOf, find, without, names, listing}
-use Rattle.paper.specs.State.{AllStored, Stored}
+use Rattle.paper.specs.State.{Stored}
 use Rattle.paper.proofs.Store.{find-storable}
 use Rattle.paper.proofs.Test.{either}
 use Rattle.line.specs.View.{width}
 use Rattle.text.specs.Write.{padded}
-use Rattle.store.specs.Packed.{entry, textsOf, packed, Short, Kept, partOf, findFrom, withoutIn, linesOf, listingOf}
+use Rattle.store.specs.Packed.{entry, textsOf, packed, partOf, findFrom, withoutIn, linesOf, listingOf}
 use Rattle.store.specs.declared.Store.{Store}
 use Rattle.store.specs.declared.Found.the-variants as F
 use Rattle.bench.specs.Memory.{entriesOf, packedStore}
 use Rattle.bench.specs.Outcome.{Opens}
-use Rattle.bench.proofs.Entries.{entries-count, entries-used, name-short}
 
 -- the names of the entries are those of the forms
 entries-names : (fs : List Form) → linesOf (entriesOf fs) ≡ names fs

@@ -9,7 +9,7 @@ use lib.ListN.{length}
 use borrow.Author.Tests.{leb-true}
 use Rattle.paper.specs.Command as C
 use Rattle.paper.specs.Form.{Form}
-use Rattle.paper.specs.Read.{Reading, command, unread, read}
+use Rattle.paper.specs.Read.{command, read}
 use Rattle.paper.specs.Refusal as R
 use Rattle.paper.specs.Bench as P
 use Rattle.paper.proofs.Test.{held}

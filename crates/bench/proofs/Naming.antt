@@ -1,6 +1,6 @@
 -- A name is copied byte by byte: what was copied and what is still to come are the name.
 use Prim.Native.Nat.{ℕ, _+_, _≤_, _<_}
-use mathlib.Core.Path.{_≡_, refl, sym, _∙_, ap}
+use mathlib.Core.Path.{_≡_, refl, _∙_, ap}
 use mathlib.Core.List.{List, [], _∷_, _++_, append-assoc, append-nil}
 use native.Mathlib.Omega.{arith}
 use lib.ListN.{length, getD, set, replicate, length-append}
@@ -11,7 +11,6 @@ use Rattle.text.proofs.Content.{Steps, closes-ends, closes-steps}
 use Rattle.text.proofs.Padded.{padded-set}
 use Rattle.line.specs.View.{textIn, Holds}
 use Rattle.bench.specs.Memory.{named}
-use Rattle.bench.specs.declared.name.Name.{Name}
 
 -- some bytes of a name are copied, and the others stand from a place on
 pub record Copying (s : List ℕ) (start end : ℕ) (bytes : List ℕ) (len i : ℕ) : Type 0 where

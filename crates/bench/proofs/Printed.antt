@@ -8,7 +8,6 @@ use denote.Enum.Declared.{tagOf}
 use lib.ListN.{length, take}
 use lib.Dec.{leb, eqb}
 use borrow.Author.Tests.{eq-eqb, ne-eqb}
-use Rattle.paper.specs.Byte.{if_then_else_}
 use Rattle.paper.specs.Command.{FormLine, print}
 use Rattle.paper.specs.Form.{Form, textOf, asked}
 use Rattle.paper.specs.Set.{allHold, setOf}

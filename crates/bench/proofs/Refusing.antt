@@ -1,8 +1,8 @@
 -- Refusal 3: for each command, the states in which it is not taken.
 use Prim.Native.Nat.{ℕ}
-use mathlib.Core.Path.{_≡_, refl, sym, _∙_, ap}
+use mathlib.Core.Path.{_≡_, refl}
 use mathlib.Core.List.{List, [], _∷_}
-use Rattle.paper.specs.Command.{Command, FormLine, Filing, new, keep, file, finish, ask, print}
+use Rattle.paper.specs.Command.{Command, FormLine, Filing, keep, file, finish, ask, print}
 use Rattle.paper.specs.Form.{Form}
 use Rattle.paper.specs.Refusal.{notNow}
 use Rattle.paper.specs.Bench as P
@@ -10,7 +10,7 @@ use Rattle.line.specs.View.{refusalOf}
 use Rattle.line.specs.declared.command.Refusal.the-variants as W
 use Rattle.store.specs.declared.Store.{Store}
 use Rattle.bench.specs.Memory.{memory, packedSession, packedStore}
-use Rattle.bench.specs.Outcome.{At, Does, Obeys, obey}
+use Rattle.bench.specs.Outcome.{Does, Obeys, obey}
 use Rattle.bench.specs.declared.state.Session.{Session}
 use Rattle.bench.specs.declared.state.Step.{Step}
 use Rattle.bench.proofs.Held.{Tagged, wrong}

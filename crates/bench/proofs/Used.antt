@@ -1,15 +1,13 @@
 -- The bytes of a session that are used: the front of its memory is the form's text and the answers.
-use Prim.Native.Nat.{ℕ, _+_, _≤_}
-use mathlib.Core.Path.{_≡_, refl, sym, _∙_, ap}
-use mathlib.Core.List.{List, [], _++_}
+use Prim.Native.Nat.{ℕ, _≤_}
+use mathlib.Core.Path.{_≡_, refl, sym}
+use mathlib.Core.List.{List}
 use native.Mathlib.Omega.{arith}
-use lib.ListN.{length, take, replicate, length-append}
+use lib.ListN.{length, take, length-append}
 use lib.Seq.{length-take-le, take-append-seam}
-use Rattle.paper.specs.Form.{textOf}
 use Rattle.paper.specs.Bench as P
 use Rattle.text.specs.Write.{padded}
 use Rattle.store.specs.declared.Store.{Store}
-use Rattle.set.specs.Taking.{answersText}
 use Rattle.bench.specs.Memory.{memory, packedSession}
 use Rattle.bench.specs.Outcome.{At}
 use Rattle.bench.specs.declared.state.Mode.{Mode}

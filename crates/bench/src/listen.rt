@@ -1,6 +1,5 @@
 // A line in every state.
 ghost use Prim.Native.Nat.{ℕ};
-ghost use mathlib.Core.Path.{_≡_};
 ghost use mathlib.Core.List.{List};
 ghost use Rattle.paper.specs.Command as C;
 ghost use Rattle.line.specs.Given.{IsRead};

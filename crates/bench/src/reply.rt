@@ -1,5 +1,4 @@
 // Bytes for a lent buffer, if they have room in it.
-ghost use mathlib.Core.Path.{_≡_};
 ghost use lib.ListN.{length};
 ghost use Rattle.line.specs.Normal.{Meets};
 ghost use Rattle.bench.specs.Outcome.{handed};

@@ -1,7 +1,7 @@
 -- Taking input in is splitting the whole of it: a line that ends is the first line of what waited and the rest, whatever
 -- pieces the input came in.
 use mathlib.Core.Path.{_≡_, refl, sym, _∙_, ap}
-use mathlib.Core.Bool.{Bool, true, false, not, _&&_}
+use mathlib.Core.Bool.{Bool, true, false, not}
 use mathlib.Core.List.{List, [], _∷_, _++_, append-assoc, append-nil}
 use Prim.Native.Nat.{ℕ, _≤_}
 use native.Mathlib.Omega.{arith}
@@ -10,7 +10,7 @@ use lib.Dec.{eqb}
 use borrow.Author.Tests.{not-true, eqb-true}
 use Rattle.paper.specs.Byte.{if_then_else_, every}
 use Rattle.paper.specs.Line.{lf, isDropped, kept, infront, cut}
-use Rattle.paper.proofs.Law.{if-true, if-false, by-test, and-left, and-right, and-both}
+use Rattle.paper.proofs.Law.{if-true, if-false, by-test, and-left, and-right}
 use Rattle.paper.proofs.Test.{either}
 use Rattle.paper.proofs.Text.{every-append}
 use Rattle.text.specs.Place.{from}

@@ -1,23 +1,21 @@
 -- Input byte by byte: what is left to take in, behind the bytes that wait, gives what the whole gives.
-use mathlib.Core.Path.{_≡_, refl, sym, _∙_, ap}
-use mathlib.Core.Bool.{true, false, _||_}
+use mathlib.Core.Path.{_≡_, refl, _∙_, ap}
+use mathlib.Core.Bool.{true, false}
 use mathlib.Core.List.{List, [], _∷_, _++_}
-use Prim.Native.Nat.{ℕ, suc, _+_, _≤_, _<_}
+use Prim.Native.Nat.{ℕ, _+_, _≤_, _<_}
 use native.Mathlib.Omega.{arith}
 use native.Mathlib.Numerals.{add-one}
-use lib.ListN.{length, take, drop, set, getD, length-append, length-take, drop-of-length-le}
+use lib.ListN.{length, take, set, getD, length-append, length-take, drop-of-length-le}
 use lib.Seq.{drop-cons, take-all, take-append-le}
-use lib.Dec.{eqb}
-use borrow.Author.Tests.{eq-eqb, ne-eqb}
+use borrow.Author.Tests.{ne-eqb}
 use Rattle.paper.specs.Byte.{if_then_else_}
-use Rattle.paper.specs.Line.{lf, isDropped}
+use Rattle.paper.specs.Line.{isDropped}
 use Rattle.paper.proofs.Law.{if-true, if-false}
 use Rattle.text.specs.Place.{from}
 use Rattle.text.specs.Write.{padded}
 use Rattle.text.proofs.Padded.{padded-set}
 use Rattle.intake.specs.Waiting.{held, Piece, line, waits, feed, Feeds}
 use Rattle.intake.specs.declared.Intake.{Intake}
-use Rattle.intake.specs.declared.Fed.{Fed}
 
 -- as many bytes are kept as wait, up to 257
 kept-len : (self : Intake) (w : List ℕ) → self ≡ held w → self .len ≡ length (take 257 w)

@@ -1,7 +1,7 @@
 -- Lines one part after the other: what each answer of a part's reader says of the record that the line gives, up to its end and its ranges.
 use mathlib.Core.Path.{_≡_, refl, sym, _∙_}
-use mathlib.Core.Bool.{Bool, true, false, _&&_, _||_, and-assoc, false≢true}
-use mathlib.Core.List.{List, [], _∷_, _++_}
+use mathlib.Core.Bool.{Bool, true, false, _||_, false≢true}
+use mathlib.Core.List.{List, [], _∷_}
 use Prim.Native.Nat.{ℕ, _+_, _≤_, _<_}
 use native.Mathlib.Omega.{arith}
 use lib.Dec.{eqb}
@@ -11,7 +11,7 @@ use borrow.Author.Tests.{eq-eqb, ne-eqb, eqb-true}
 use Rattle.paper.specs.Byte.{bytes, every, any, among}
 use Rattle.paper.specs.Line.{Got, got, bad, Reader, followed, ended, byte, comma, number, string}
 use Rattle.paper.specs.Command as P
-use Rattle.paper.specs.Command.{isShown, inRange, ranges, allOf, all, drawRanges, defineRanges, settingRanges, contentRanges}
+use Rattle.paper.specs.Command.{isShown, inRange, ranges, allOf, defineRanges, settingRanges, contentRanges}
 use Rattle.paper.specs.Read.{command, copiesOf, bodyShape, judged}
 use Rattle.paper.proofs.Law.{if-true, if-false, followed-got, followed-bad}
 use Rattle.paper.proofs.Test.{held}

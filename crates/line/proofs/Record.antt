@@ -1,8 +1,8 @@
 -- A record that is written: its strings close in the source, its letters and numbers are small, and its normal form has room in a buffer of 256 bytes.
 use mathlib.Core.Path.{_≡_, refl, sym, _∙_}
-use mathlib.Core.Bool.{Bool, true, false, _&&_, false≢true}
+use mathlib.Core.Bool.{true, _&&_, false≢true}
 use mathlib.Core.List.{List, [], _∷_}
-use Prim.Native.Nat.{ℕ, _+_, _≤_, _<_}
+use Prim.Native.Nat.{ℕ, _≤_, _<_}
 use native.Mathlib.Omega.{arith}
 use lib.ListN.{length}
 use lib.Dec.{eqb, ltb}
@@ -11,7 +11,7 @@ use Rattle.paper.specs.Byte.{bytes, every, among}
 use Rattle.paper.specs.Line.{plain}
 use Rattle.paper.specs.Command as P
 use Rattle.paper.specs.Read as Read
-use Rattle.paper.specs.Write.{contentText, normal}
+use Rattle.paper.specs.Write.{contentText}
 use Rattle.paper.proofs.Law.{and-left, and-right}
 use Rattle.paper.proofs.Test.{tests, held}
 use Rattle.paper.proofs.Text.{among-every}

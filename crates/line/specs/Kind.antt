@@ -1,5 +1,5 @@
 -- The kind of a line by its first two bytes, and what the rest of the line must be for each kind.
-use Rattle.paper.specs.Byte.{ℕ, List, [], _∷_, eqb, if_then_else_}
+use Rattle.paper.specs.Byte.{ℕ, List, eqb, if_then_else_}
 use Rattle.paper.specs.Line.{ended}
 use Rattle.paper.specs.Command as P
 use Rattle.paper.specs.Read.{Shape, strange, bodyShape, sizeLine, directionLine, textLine, barLine, frameLine, counterLine, variableLine, nameLine, printLine}

@@ -1,13 +1,12 @@
 -- Of a line that is too long its first 257 bytes tell all that the bench says of it.
-use Prim.Native.Nat.{ℕ, _≤_, _<_}
-use mathlib.Core.Path.{_≡_, refl, sym, _∙_, ap}
+use Prim.Native.Nat.{ℕ}
+use mathlib.Core.Path.{_≡_, sym, _∙_}
 use mathlib.Core.Bool.{true, false}
 use mathlib.Core.List.{List}
 use native.Mathlib.Omega.{arith}
 use lib.ListN.{length, take, length-take}
 use lib.Seq.{take-all}
 use borrow.Author.Tests.{ltb-true, ltb-false, lt-ltb}
-use Rattle.paper.specs.Byte.{if_then_else_}
 use Rattle.paper.specs.Line.{long}
 use Rattle.paper.specs.Command.{FormLine}
 use Rattle.paper.specs.Form.{Form}

@@ -7,9 +7,8 @@ use mathlib.Core.List.{List, [], _∷_, _++_, append-nil}
 use mathlib.Core.Option.{Option, none, some, Option·some-ne-none, Option·some-injective}
 use Prim.Native.Nat.{ℕ, _+_, _≤_}
 use native.Mathlib.Omega.{arith}
-use lib.Dec.{eqb}
 use lib.ListN.{length}
-use borrow.Author.Tests.{eqb-true, eq-eqb}
+use borrow.Author.Tests.{eq-eqb}
 use Rattle.paper.specs.Byte.{if_then_else_, same}
 use Rattle.paper.specs.Command.{FormLine, isName, finish, recall, delete, Command, file, star}
 use Rattle.paper.specs.Refusal.{noRoom, absent, accepted, refused}
@@ -17,9 +16,9 @@ use Rattle.paper.specs.Read.{command, read}
 use Rattle.paper.specs.Form.{Form, textOf, asked, unsoundAt, find, without, used, hasRoom, stored}
 use Rattle.paper.specs.Bench.{idle, collecting, Bench, outcome, done, refuse, openedWith, recalled, deleted, filed, inIdle, checked, onFinish, inCollecting, obeyed, heard, hear}
 use Rattle.paper.specs.State.{Storable, AllStored, Draft, Sane}
-use Rattle.paper.proofs.Law.{and-left, and-right, and-both}
+use Rattle.paper.proofs.Law.{and-both}
 use Rattle.paper.proofs.Text.{same-eq}
-use Rattle.paper.proofs.Test.{clash, either, agree}
+use Rattle.paper.proofs.Test.{either, agree}
 
 -- a text is the same as itself
 pub same-self : (s : List ℕ) → same s s ≡ true

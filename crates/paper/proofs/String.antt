@@ -7,9 +7,9 @@ use native.Mathlib.Omega.{arith}
 use lib.ListN.{length, length-append}
 use lib.Dec.{eqb}
 use Rattle.paper.specs.Byte.{if_then_else_, every}
-use Rattle.paper.specs.Line.{Got, got, followed, give, one, byte, quote, backslash, within, plain, escaped, string, escape, quoted, control}
+use Rattle.paper.specs.Line.{Got, got, followed, give, one, byte, quote, backslash, within, plain, escaped, string, escape, quoted}
 use Rattle.paper.proofs.Law.{and-left, and-right, by-test}
-use Rattle.paper.proofs.Text.{every-append, clear, clear-control}
+use Rattle.paper.proofs.Text.{every-append, clear}
 
 -- the plain mood's choice by its two tests, laid open
 plain-cons : (b : ℕ) (s : List ℕ)

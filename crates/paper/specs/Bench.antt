@@ -1,5 +1,5 @@
 -- 'The states': what every line does in every state, and every take.
-use Rattle.paper.specs.Byte.{ℕ, suc, _-_, Bool, true, false, List, [], _∷_, _++_, Option, none, some, length, drop, leb, eqb, if_then_else_, same}
+use Rattle.paper.specs.Byte.{ℕ, suc, _-_, List, [], _∷_, _++_, Option, none, some, length, drop, leb, eqb, if_then_else_, same}
 use Rattle.paper.specs.Line.{long, control}
 use Rattle.paper.specs.Command.{Define, FormLine, Filing, start, finish, inform, recall, delete, Command, empty, new, keep, file, ask, print, star}
 use Rattle.paper.specs.Refusal.{Refusal, tooLong, controlByte, notNow, overfull, isSpoiled, unsound, nameTaken, noRoom, absent, unfit, overrun, tooShort, notPrinting, Answer, accepted, refused}

@@ -1,5 +1,5 @@
 -- 'The commands of the profile': what a line says, and the ranges of the table over the label's width.
-use Rattle.paper.specs.Byte.{ℕ, _+_, _-_, code, Bool, true, false, _&&_, _||_, List, [], _∷_, _++_, length, leb, ltb, eqb, bytes, between, every, among, same}
+use Rattle.paper.specs.Byte.{ℕ, _+_, _-_, code, Bool, true, _&&_, _||_, List, [], _∷_, _++_, length, leb, ltb, bytes, between, every, among, same}
 use Rattle.paper.specs.Line.{isDigit}
 
 -- a value by its number: `Cn` or `Vnn`

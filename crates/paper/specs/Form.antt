@@ -1,7 +1,7 @@
 -- 'The form store': a form's text and its limits, the rules of a sound form, the stored forms and the reply to `FI`.
 use Rattle.paper.specs.Byte.{ℕ, zero, suc, _+_, _-_, Bool, true, false, not, _&&_, _||_, List, [], _∷_, _++_, map, Option, none, some, length, leb, ltb, eqb, bytes, if_then_else_, same}
 use Rattle.paper.specs.Line.{lf}
-use Rattle.paper.specs.Command.{Value, counter, variable, Content, text, shown, joined, Draw, size, direction, put, bar, frame, Define, counting, varying, FormLine, draw, define, Command, keep, all}
+use Rattle.paper.specs.Command.{Value, counter, variable, Content, text, shown, joined, Draw, size, direction, put, bar, frame, Define, counting, varying, FormLine, draw, define, keep, all}
 use Rattle.paper.specs.Write.{linesText}
 
 -- a form's text: its lines in normal form, each with LF

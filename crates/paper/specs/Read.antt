@@ -1,7 +1,7 @@
 -- Reading a line: its leading letters, then its shape to the end, then its ranges give one command or one refusal.
-use Rattle.paper.specs.Byte.{ℕ, zero, suc, code, String, Bool, true, false, List, [], _∷_, eqb, bytes, if_then_else_, among}
-use Rattle.paper.specs.Line.{Got, got, bad, Reader, followed, _>>=_, _>>_, give, ended, one, byte, comma, part, digit, twoDigits, number, letter, quote, string, long, control}
-use Rattle.paper.specs.Command.{Value, counter, variable, Content, text, shown, joined, Setting, Pen, black, flip, white, Draw, size, direction, put, bar, frame, Step, up, down, Define, counting, varying, FormLine, draw, define, Filing, start, finish, inform, recall, delete, Command, empty, new, keep, file, ask, print, inRange}
+use Rattle.paper.specs.Byte.{ℕ, zero, suc, code, String, List, [], _∷_, eqb, bytes, if_then_else_, among}
+use Rattle.paper.specs.Line.{Got, got, bad, Reader, _>>=_, _>>_, give, ended, one, byte, comma, part, digit, twoDigits, number, letter, string, long, control}
+use Rattle.paper.specs.Command.{Value, counter, variable, Content, text, shown, joined, Setting, Pen, black, flip, white, size, direction, put, bar, frame, Step, up, down, counting, varying, draw, define, Filing, start, finish, inform, recall, delete, Command, empty, new, keep, file, ask, print, inRange}
 use Rattle.paper.specs.Refusal.{Refusal, tooLong, controlByte, unknown, malformed, outOfRange}
 
 -- the first reader, or where it finds nothing the second

@@ -1,8 +1,8 @@
 -- Answers that fit, counters, and the print set: the end of 'The states'.
-use Rattle.paper.specs.Byte.{ℕ, zero, suc, _+_, _-_, _*_, _^_, code, Bool, true, false, not, _&&_, _||_, List, [], _∷_, _++_, map, Option, none, some, length, replicate, leb, ltb, eqb, if_then_else_, every, same, decimal}
+use Rattle.paper.specs.Byte.{ℕ, zero, suc, _+_, _-_, _*_, _^_, code, Bool, true, false, _&&_, List, [], _∷_, _++_, Option, none, some, length, replicate, leb, ltb, eqb, if_then_else_, every, same, decimal}
 use Rattle.paper.specs.Line.{isDigit, cut}
 use Rattle.paper.specs.Command.{Value, Content, text, shown, joined, Draw, size, direction, put, bar, frame, Step, up, down, Define, counting, varying, FormLine, draw, define, Command, empty, new, keep, file, ask, print, isShown}
-use Rattle.paper.specs.Read.{Reading, command, unread, read}
+use Rattle.paper.specs.Read.{command, unread, read}
 use Rattle.paper.specs.Write.{linesText}
 use Rattle.paper.specs.Form.{asked, valueOf, sameValue, isSize, isDirection, drawing}
 

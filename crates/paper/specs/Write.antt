@@ -1,5 +1,5 @@
 -- The normal form of a command, and writing it into a lent buffer.
-use Rattle.paper.specs.Byte.{ℕ, _+_, _/_, _%_, code, Bool, true, false, List, [], _∷_, _++_, length, leb, bytes, if_then_else_, decimal}
+use Rattle.paper.specs.Byte.{ℕ, _+_, _/_, _%_, code, List, [], _∷_, _++_, length, leb, bytes, if_then_else_, decimal}
 use Rattle.paper.specs.Line.{lf, quoted}
 use Rattle.paper.specs.Command.{Value, counter, variable, Content, text, shown, joined, Setting, Pen, black, flip, white, Draw, size, direction, put, bar, frame, Step, up, down, Define, counting, varying, FormLine, draw, define, Filing, start, finish, inform, recall, delete, Command, empty, new, keep, file, ask, print, inRange}
 use Rattle.paper.specs.Refusal.{Answer, accepted, refused, outOfRange, tooShort}

@@ -1,16 +1,15 @@
 -- A definition with its answer gives its value: the code's case is the paper's clause.
 use mathlib.Core.Path.{_≡_, refl, sym, _∙_, ap}
-use mathlib.Core.Bool.{true, false, false≢true}
-use mathlib.Core.List.{List, [], _∷_, _++_}
-use mathlib.Core.Option.{none}
-use Prim.Native.Nat.{ℕ, _+_, _-_, _^_, _≤_, _<_}
+use mathlib.Core.Bool.{true, false≢true}
+use mathlib.Core.List.{List, [], _∷_}
+use Prim.Native.Nat.{ℕ, _-_, _^_, _≤_, _<_}
 use native.Mathlib.Omega.{arith}
-use lib.ListN.{length, take, drop, length-drop}
+use lib.ListN.{length, drop, length-drop}
 use lib.Seq.{length-take-le}
 use borrow.Author.Tests.{leb-true}
 use Rattle.paper.specs.Command as P
 use Rattle.paper.specs.Command.{defineRanges, allOf}
-use Rattle.paper.specs.Form.{defined, valueOf}
+use Rattle.paper.specs.Form.{valueOf}
 use Rattle.paper.specs.Set.{amount, valueAt, fits}
 use Rattle.paper.specs.State.{fitting}
 use Rattle.paper.proofs.Law.{and-right}
@@ -21,7 +20,7 @@ use Rattle.form.specs.Asked.{defineOf, stepIn}
 use Rattle.form.specs.declared.asked.Define.{Define}
 use Rattle.form.specs.declared.asked.Define.the-variants.{Counter, Variable}
 use Rattle.set.specs.Fill.{partOf}
-use Rattle.set.specs.Told.{noted, placed, Told}
+use Rattle.set.specs.Told.{noted, placed}
 use Rattle.set.specs.Taking.{Fits, Tells}
 use Rattle.set.specs.declared.values.Values.{Values}
 use Rattle.set.proofs.Digits.{power-nine}

@@ -1,24 +1,24 @@
 -- Whether the counters hold: a definition that is met decides, and the lines and answers that are left decide about the rest.
 use mathlib.Core.Path.{_≡_, refl, sym, _∙_, ap}
-use mathlib.Core.Bool.{Bool, true, false, _&&_, and-true}
-use mathlib.Core.List.{List, [], _∷_, _++_}
+use mathlib.Core.Bool.{Bool, true, false, _&&_}
+use mathlib.Core.List.{List, _∷_}
 use Prim.Native.Nat.{ℕ, _+_, _-_, _*_, _^_, _≤_, _<_}
 use native.Mathlib.Nat.{pow-le-pow-right}
 use native.Mathlib.Omega.{arith}
-use lib.ListN.{length, drop}
-use lib.Dec.{leb, ltb}
+use lib.ListN.{length}
+use lib.Dec.{leb}
 use borrow.Author.Tests.{leb-true, lt-ltb, le-leb}
 use Rattle.paper.specs.Byte.{every}
 use Rattle.paper.specs.Line.{isDigit}
 use Rattle.paper.specs.Command as P
 use Rattle.paper.specs.Command.{defineRanges, stepRange, allOf}
-use Rattle.paper.specs.Form.{textOf, asked}
+use Rattle.paper.specs.Form.{asked}
 use Rattle.paper.specs.Read.{command}
 use Rattle.paper.specs.Set.{amount, holds, holdsTo, allHold, fits}
 use Rattle.paper.proofs.Law.{and-left, and-right}
-use Rattle.paper.proofs.Test.{Passed, held, tests}
+use Rattle.paper.proofs.Test.{Passed, held}
 use Rattle.text.specs.Place.{from}
-use Rattle.line.specs.View.{width, viewOf, stepOf}
+use Rattle.line.specs.View.{viewOf, stepOf}
 use Rattle.line.specs.Given.{IsRead}
 use Rattle.line.specs.declared.command.Command.{Command}
 use Rattle.line.specs.declared.command.Step.{Step}
@@ -31,8 +31,8 @@ use Rattle.form.specs.declared.asked.Line.the-variants.{Definition, Other}
 use Rattle.form.proofs.Lines.{Inside, lineAt, lines-end}
 use Rattle.set.specs.Count.{sizeOf}
 use Rattle.set.specs.Fill.{partOf}
-use Rattle.set.specs.Taking.{answersText, Answered, Fits}
-use Rattle.set.proofs.Walking.{Walk, Draws, Asks, walk-draws, walk-asks}
+use Rattle.set.specs.Taking.{Answered, Fits}
+use Rattle.set.proofs.Walking.{Walk, Asks, walk-draws, walk-asks}
 
 -- a counter's answer: digits, no more than its len, and a step in its range
 pub record Counted (len : ℕ) (step : Step) (a : List ℕ) : Type 0 where

@@ -9,15 +9,13 @@ use types.Run.{OneOf, miss}
 use denote.Enum.Declared.{tagOf}
 use Rattle.paper.specs.Line.{lf}
 use Rattle.paper.specs.Command as P
-use Rattle.paper.specs.Command.{settingRanges, contentRanges, drawRanges, allOf}
 use Rattle.paper.specs.Form.{drawSound}
 use Rattle.paper.specs.Read.{Reading, command, unread}
 use Rattle.paper.specs.Set.{valueIn, placed}
 use Rattle.paper.specs.Write.{lineText}
-use Rattle.paper.proofs.Test.{Held, held, held-right}
 use Rattle.text.specs.Write.{Writes}
 use Rattle.text.proofs.Written.{writes-then, writes-length}
-use Rattle.line.specs.View.{width, viewOf, putOf, barOf, settingOf, contentOf}
+use Rattle.line.specs.View.{viewOf, putOf, barOf, settingOf, contentOf}
 use Rattle.line.specs.declared.command.Command.{Command}
 use Rattle.line.proofs.command.Command as C
 use Rattle.line.specs.declared.command.Command.the-variants.{Empty, New, Finish, Inform, Ask, Size, Direction, Text, Black, Flip, White, Frame, Counting, Varying, Start, Recall, Delete, Print, Refused}

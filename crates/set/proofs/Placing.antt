@@ -1,9 +1,9 @@
 -- A value in place of the letters that name it: the line up to them, the value's bytes and the quote are the line of the set.
 use mathlib.Core.Path.{_≡_, refl, sym, _∙_, ap}
-use mathlib.Core.Bool.{Bool, true, false, _||_, false≢true}
+use mathlib.Core.Bool.{Bool, true, false, false≢true}
 use mathlib.Core.List.{List, [], _∷_, _++_, append-assoc}
 use mathlib.Core.Option.{Option, none, some}
-use Prim.Native.Nat.{ℕ, zero, suc, _+_, _-_, _/_, _%_, _≤_, _<_}
+use Prim.Native.Nat.{ℕ, zero, suc, _+_, _-_, _≤_, _<_}
 use native.Mathlib.Omega.{arith}
 use lib.ListN.{length, take, getD, replicate, length-append}
 use lib.Seq.{take-at}
@@ -26,7 +26,7 @@ use Rattle.line.specs.declared.command.Content.{Content}
 use Rattle.line.specs.declared.command.Content.the-variants.{Text, Counter, Variable, TextCounter, TextVariable}
 use Rattle.text.specs.declared.read.Span.{Span}
 use Rattle.set.specs.Fill.{headText, partOf}
-use Rattle.set.specs.Told.{Told, countedLine, answeredLine, placeBegins, placeEnds}
+use Rattle.set.specs.Told.{countedLine, answeredLine, placeBegins, placeEnds}
 use Rattle.set.specs.Showing.{shownLine, Showing, textShown}
 use Rattle.set.specs.declared.values.Values.{Values}
 

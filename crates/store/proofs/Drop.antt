@@ -2,7 +2,7 @@
 use mathlib.Core.Path.{_≡_, refl, sym, _∙_, ap}
 use mathlib.Core.Bool.{Bool, true, false, _&&_}
 use mathlib.Core.List.{List, [], _∷_, _++_, append-nil}
-use Prim.Native.Nat.{ℕ, zero, suc, _+_, _-_, _*_, _≤_, _<_}
+use Prim.Native.Nat.{ℕ, suc, _+_, _-_, _*_, _≤_, _<_}
 use native.Mathlib.Omega.{arith}
 use native.Mathlib.Numerals.{add-one}
 use lib.ListN.{length, take, drop, getD, length-append}
@@ -13,7 +13,7 @@ use Rattle.paper.specs.Byte.{if_then_else_, same}
 use Rattle.paper.proofs.Law.{if-true, if-false, by-test}
 use Rattle.store.specs.Packed.{Entry, entry, textsOf, packed, Kept, nameIn, partOf, withoutIn}
 use Rattle.store.specs.declared.Store.{Store}
-use Rattle.store.proofs.Look.{formAt, counts, uses, len-at, size-at, name-at, name-short, text-at, text-room, startOf, start-more}
+use Rattle.store.proofs.Look.{formAt, counts, uses, len-at, size-at, name-at, text-at, text-room, startOf, start-more}
 
 -- room for one form more: eight are there, or the bytes decide
 pub room-full : (self : Store) (len : ℕ) → 8 ≤ self .count → (k : Kept self)

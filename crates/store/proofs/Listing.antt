@@ -1,11 +1,11 @@
 -- The names are written one line after the other: what stands there are the lines of the forms so far.
 use mathlib.Core.Path.{_≡_, refl, sym, _∙_, ap}
-use mathlib.Core.List.{List, [], _∷_, _++_, append-assoc, append-nil}
+use mathlib.Core.List.{List, [], _∷_, _++_, append-assoc}
 use Prim.Native.Nat.{ℕ, zero, suc, _+_, _-_, _*_, _≤_, _<_}
 use native.Mathlib.Omega.{arith}
 use native.Mathlib.Numerals.{add-one}
 use lib.ListN.{length, take, drop, getD, length-append}
-use lib.Seq.{take-suc, take-all, length-take-le}
+use lib.Seq.{take-suc, take-all}
 use Rattle.text.specs.Write.{Writes}
 use Rattle.text.proofs.Written.{writes-none, writes-then, writes-length}
 use Rattle.paper.specs.Byte.{bytes}

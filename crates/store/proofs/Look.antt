@@ -1,10 +1,10 @@
 -- The form at a number of a store that holds some forms: its lengths and its name are where `packed` puts them.
-use mathlib.Core.Path.{_≡_, refl, sym, _∙_, ap}
+use mathlib.Core.Path.{_≡_, refl, _∙_, ap}
 use mathlib.Core.List.{List, [], _∷_, _++_, map, append-assoc}
 use Prim.Native.Nat.{ℕ, zero, suc, _+_, _-_, _*_, _≤_, _<_}
 use native.Mathlib.Omega.{arith}
 use native.Mathlib.Numerals.{add-one}
-use lib.ListN.{length, take, drop, getD, replicate, length-append, length-take, length-replicate, length-map, List·getD-append, List·getD-map}
+use lib.ListN.{length, take, drop, getD, replicate, length-append, length-map, List·getD-append}
 use lib.Seq.{drop-cons, take-suc, take-append-seam, drop-append-add, take-nil}
 use Rattle.store.specs.Packed.{Entry, entry, slot, textsOf, namesOf, packed, nameIn, partOf, Short, Kept}
 use Rattle.store.specs.declared.Store.{Store}

@@ -1,10 +1,9 @@
 -- A form joins the others in memory: its bytes are written over zeros, so that the whole is again what the forms fix.
 use mathlib.Core.Path.{_≡_, refl, sym, _∙_, ap}
 use mathlib.Core.List.{List, [], _∷_, _++_, map, append-assoc, append-nil}
-use Prim.Native.Nat.{ℕ, zero, suc, _+_, _-_, _*_, _≤_, _<_}
+use Prim.Native.Nat.{ℕ, _+_, _-_, _*_, _≤_, _<_}
 use native.Mathlib.Omega.{arith}
-use lib.ListN.{length, take, drop, set, replicate, length-append, length-take, length-replicate, replicate-append-replicate, length-map}
-use lib.Seq.{take-append-seam, take-append-add, drop-append-add}
+use lib.ListN.{length, set, replicate, length-append, length-take, length-map}
 use Rattle.text.specs.Write.{Writes, written, padded}
 use Rattle.text.proofs.Padded.{padded-write, padded-set, padded-zeros, filled}
 use Rattle.store.specs.Packed.{Entry, entry, slot, textsOf, namesOf, packed}

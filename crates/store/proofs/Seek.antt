@@ -1,18 +1,17 @@
 -- Looking for a name from the first form on: what is left to look at is what was to be looked at.
-use mathlib.Core.Path.{_≡_, refl, sym, _∙_, ap}
+use mathlib.Core.Path.{_≡_, refl, sym, _∙_}
 use mathlib.Core.Bool.{Bool, true, false}
-use mathlib.Core.List.{List, [], _∷_}
-use Prim.Native.Nat.{ℕ, zero, suc, _+_, _-_, _*_, _≤_, _<_}
+use mathlib.Core.List.{List, _∷_}
+use Prim.Native.Nat.{ℕ, suc, _+_, _-_, _≤_, _<_}
 use native.Mathlib.Omega.{arith}
 use native.Mathlib.Numerals.{add-one}
-use lib.ListN.{length, take, drop, getD, drop-of-length-le}
+use lib.ListN.{drop, getD, drop-of-length-le}
 use Rattle.paper.specs.Byte.{same}
 use Rattle.paper.proofs.Law.{if-true, if-false}
-use Rattle.store.specs.Packed.{Entry, textsOf, packed, Kept, nameIn, findFrom}
+use Rattle.store.specs.Packed.{textsOf, Kept, nameIn, findFrom}
 use Rattle.store.specs.declared.Store.{Store}
-use Rattle.store.specs.declared.Found.{Found}
 use Rattle.store.specs.declared.Found.the-variants.{At, Absent}
-use Rattle.store.proofs.Look.{formAt, counts, len-at, size-at, name-at, name-short, drop-form, startOf, start-more}
+use Rattle.store.proofs.Look.{formAt, counts, len-at, size-at, name-at, drop-form, startOf, start-more}
 
 -- the name was not found before the form at a number, whose text begins at a place
 pub record Seeking (self : Store) (name names : List ℕ) (i start : ℕ) : Type 0 where

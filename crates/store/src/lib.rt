@@ -1,5 +1,5 @@
 // Names and texts of up to 8 forms in 4,096 bytes. What stands in memory is fixed by the forms: behind them all is 0.
-ghost use Prim.Native.Nat.{ℕ, _+_, _-_, _<_, _≤_};
+ghost use Prim.Native.Nat.{_+_, _-_, _<_, _≤_};
 ghost use mathlib.Core.Path.{_≡_};
 ghost use mathlib.Core.List.{List, [], _∷_, _++_};
 ghost use lib.ListN.{length};

@@ -6,7 +6,7 @@ use Prim.Native.Nat.{ℕ, _+_, _≤_, _<_, _/_, _%_}
 use native.Mathlib.Omega.{arith}
 use native.Mathlib.Numerals.{add-one}
 use lib.ListN.{length, take, drop, getD, set, drop-of-length-le, length-append, length-take, length-drop, take-append-drop}
-use lib.Seq.{drop-cons, length-take-le, take-at, drop-at, drop-drop, set-split, append-snoc, take-append-le, take-take}
+use lib.Seq.{drop-cons, length-take-le, take-at, drop-at, drop-drop, set-split, append-snoc}
 use Rattle.paper.specs.Byte.{decimal}
 use Rattle.paper.specs.Write.{two}
 use Rattle.paper.proofs.Number.{decimal-small, decimal-big}

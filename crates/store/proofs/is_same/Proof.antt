@@ -1,6 +1,5 @@
 -- The loop keeps what is left to compare.
 use Prim.Native.Nat.{_-_}
-use borrow.Author.Needs.{needs}
 use native.Mathlib.Omega.{arith}
 use lib.ListN.{length}
 use Rattle.store.proofs.Compare.{Agree, unlike, agree-begins, agree-differs, agree-turns, agree-ends}

@@ -1,5 +1,4 @@
 -- A set that has room is out.
-use native.Mathlib.Omega.{arith}
 use borrow.Author.Needs.{needs}
 use Rattle.bench.proofs.Used.{text-within, answers-within, text-size, answers-size}
 use Rattle.bench.proofs.Printed.{printed-taking, printed-left, takes-short, takes-set}

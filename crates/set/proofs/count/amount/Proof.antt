@@ -1,6 +1,6 @@
 -- The loop keeps the number that the digits so far write.
-use Prim.Native.Nat.{_-_, _<_, _≤_}
-use lib.ListN.{length, getD}
+use Prim.Native.Nat.{_-_}
+use lib.ListN.{length}
 use borrow.Author.Needs.{needs}
 use native.Mathlib.Omega.{arith}
 use Rattle.set.proofs.Digits.{Summing, sum-begins, sum-turns, sum-ends, sum-small, digit-low, digit-high}

@@ -1,8 +1,7 @@
 -- The loop keeps the power so far.
 use Prim.Native.Nat.{_-_, _^_, _≤_}
-use mathlib.Core.Path.{_≡_, sym, _∙_, ap}
+use mathlib.Core.Path.{_≡_, sym}
 use native.Mathlib.Nat.{pow-zero}
-use borrow.Author.Needs.{needs}
 use native.Mathlib.Omega.{arith}
 use Rattle.set.proofs.Digits.{power-turns, power-nine}
 use Rattle.set.proofs.count.ten_to.Statement.{statement}

@@ -5,7 +5,6 @@ use lib.ListN.{length}
 use borrow.Author.Needs.{needs}
 use Rattle.text.proofs.Written.{writes-length}
 use Rattle.form.proofs.Lines.{Inside, end-inside, lineAt}
-use Rattle.set.specs.Fill.{partOf}
 use Rattle.set.proofs.Putting.{Putting, putting-begins, putting-draws, putting-goes, answer-begins, answer-ends, putting-fits, putting-tells, putting-ends, taking-number, print-room, copies-room, end-room}
 use Rattle.set.proofs.take.put_set.Statement.{statement}
 use Rattle.set.proofs.take.put_set.Tie as tie

@@ -1,5 +1,4 @@
 -- The loop keeps the lines of the forms so far.
-use mathlib.Core.Path.{refl}
 use borrow.Author.Needs.{needs}
 use Prim.Native.Nat.{_-_, _<_}
 use native.Mathlib.Omega.{arith}

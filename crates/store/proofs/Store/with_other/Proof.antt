@@ -1,6 +1,4 @@
 -- The name decides whether the form joins.
-use native.Mathlib.Omega.{arith}
-use Rattle.store.proofs.Look.{uses}
 use Rattle.store.proofs.Drop.{other-stays, other-joins}
 use borrow.Author.Needs.{needs}
 use Rattle.store.proofs.Store.with_other.Statement.{statement}

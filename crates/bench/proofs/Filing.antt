@@ -28,7 +28,6 @@ use Rattle.form.specs.Asked.{nextOf}
 use Rattle.form.specs.declared.asked.Next.{Next}
 use Rattle.form.specs.declared.asked.Next.the-variants as N
 use Rattle.form.specs.declared.asked.Define as D
-use Rattle.text.specs.Place.{from}
 use Rattle.text.specs.Write.{Writes, padded}
 use Rattle.text.specs.declared.read.Span.{Span}
 use Rattle.text.proofs.Padded.{padded-length, padded-write}
@@ -203,15 +202,13 @@ asks-nothing at (draw d ∷ ls) e = asks-nothing _ ls e
 asks-nothing at (define d ∷ ls) e = cc
 
 -- a definition is found in a form that is opened
-pub opening-asks : (text : List ℕ) (r : Next) (asks : D.Define) (next : ℕ) → ((rest : List FormLine) → from text 0 ≡ textOf rest → allIn width rest ≡ true → r ≡ nextOf 0 rest)
+pub opening-asks : (text : List ℕ) (r : Next) (asks : D.Define) (next : ℕ) → ((ls : List FormLine) → text ≡ textOf ls → allIn width ls ≡ true → r ≡ nextOf 0 ls)
     → r ≡ N.Asked asks next → (ls : List FormLine) → text ≡ textOf ls → allIn width ls ≡ true → M.Opened ≡ opensAs (asked ls)
-unfolding from
 opening-asks text r asks next p e ls t i = asks-something 0 ls asks next (sym (p ls t i) ∙ e)
 
 -- and in another none
-pub opening-ready : (text : List ℕ) (r : Next) → ((rest : List FormLine) → from text 0 ≡ textOf rest → allIn width rest ≡ true → r ≡ nextOf 0 rest)
+pub opening-ready : (text : List ℕ) (r : Next) → ((ls : List FormLine) → text ≡ textOf ls → allIn width ls ≡ true → r ≡ nextOf 0 ls)
     → r ≡ N.Nothing → (ls : List FormLine) → text ≡ textOf ls → allIn width ls ≡ true → M.Ready ≡ opensAs (asked ls)
-unfolding from
 opening-ready text r p e ls t i = asks-nothing 0 ls (sym (p ls t i) ∙ e)
 
 -- a form's text is within its limit

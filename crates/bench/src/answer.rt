@@ -19,7 +19,7 @@ use crate::state::moved;
 use crate::state::refuse;
 use form::asked::Next;
 use form::asked::answer_fits;
-use form::asked::next_asked;
+use form::course::asked_from;
 use line::clear::is_clear;
 use line::command::Refusal;
 use store::Store;
@@ -41,7 +41,7 @@ pub fn ask(session: Session, store: Store) -> Step
 fn waiting(text: &[u8], place: usize) -> Mode
     ensures { λ r. ⌜ ((rest : List C.FormLine) → from (now (text .entry)) place ≡ textOf rest → allIn width rest ≡ true → r ≡ waitsFor place (asked rest)) ⌝ }
 {
-    match next_asked(text, place) {
+    match asked_from(text, place) {
         Next::Asked { define: _, next: _ } => Mode::Answering { place },
         Next::Nothing => Mode::Ready,
     }
@@ -83,7 +83,7 @@ pub fn answer(session: Session, store: Store, s: &[u8], place: usize) -> Step
     }
     let text = session.text;
     let size = session.size;
-    let Next::Asked { define, next } = next_asked(&text[..size], place) else {
+    let Next::Asked { define, next } = asked_from(&text[..size], place) else {
         return done(moved(session, Mode::Ready), store);
     };
     if !answer_fits(define, s) {

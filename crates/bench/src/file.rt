@@ -21,7 +21,7 @@ use crate::state::begun;
 use crate::state::done;
 use crate::state::refuse;
 use form::asked::Next;
-use form::asked::next_asked;
+use form::course::first_asked;
 use line::command::Refusal;
 use store::Found;
 use store::Store;
@@ -83,7 +83,7 @@ pub fn inform(session: Session, store: Store, reply: &mut [u8]) -> Step
 fn opening(text: &[u8]) -> Mode
     ensures { λ r. ⌜ ((ls : List C.FormLine) → now (text .entry) ≡ textOf ls → allIn width ls ≡ true → r ≡ opensAs (asked ls)) ⌝ }
 {
-    match next_asked(text, 0) {
+    match first_asked(text) {
         Next::Asked { define: _, next: _ } => Mode::Opened,
         Next::Nothing => Mode::Ready,
     }

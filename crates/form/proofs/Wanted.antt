@@ -30,6 +30,7 @@ use Rattle.form.specs.declared.asked.Define.{Define}
 use Rattle.form.specs.declared.asked.Define.the-variants.{Counter, Variable}
 use Rattle.form.specs.declared.asked.Line.{Line}
 use Rattle.form.specs.declared.asked.Line.the-variants.{Definition, Other}
+use Rattle.form.specs.declared.asked.Next.{Next}
 use Rattle.form.specs.declared.asked.Next.the-variants.{Asked, Nothing}
 use Rattle.form.proofs.Lines.{Keeps, kept, lineAt, line-turn, lines-end}
 
@@ -42,6 +43,19 @@ step-again (Down n) = refl
 -- a record tells a line of a form as what its case shows
 pub line-told : (s : List ℕ) (c d : Command) (r : Line) (l : P.FormLine) → c ≡ d → Keeps (λ l. r ≡ lineOf l) (viewOf s d) → viewOf s c ≡ command (P.keep l) → r ≡ lineOf l
 line-told s c d r l e k v = kept (λ l. r ≡ lineOf l) s c d l e k v
+
+-- an answer is the next definition of a text from a place on
+abbrev pub NextFrom : List ℕ → ℕ → Next → Type 0
+NextFrom text at r = (rest : List P.FormLine) → from text at ≡ textOf rest → allIn width rest ≡ true → r ≡ nextOf at rest
+
+-- an equal text and an equal place have the same next definition
+pub next-same : (text u : List ℕ) (at p : ℕ) (r : Next) → u ≡ text → p ≡ at → NextFrom u p r → NextFrom text at r
+next-same text u at p r e f h rest k i = h rest (rw (e, f) k) i ∙ rw f
+
+-- from the first line on it is the first of the text
+pub next-first : (text : List ℕ) (r : Next) → NextFrom text 0 r → (ls : List P.FormLine) → text ≡ textOf ls → allIn width ls ≡ true → r ≡ nextOf 0 ls
+unfolding from
+next-first text r h = h
 
 -- the lines from a place on are those that are left of a form from another place on
 pub record Left (text : List ℕ) (start : ℕ) (rest : List P.FormLine) (at : ℕ) : Type 0 where

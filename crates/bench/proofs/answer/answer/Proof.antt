@@ -26,7 +26,7 @@ answer-spec =
     (λ c. λ b.
     let n = c .before .before .before .before in
     let k = n .before .before .before .before in
-    hears-none _ _ _ _ _ _ _ _ b (k .before .before .before .pre .1) (k .before .if1 .left) (k .is-clear .ensures) (not-false _ (n .before .before .before .if2 .left)) (n .next-asked .ensures) (c .before .before .enum-told .given .1) (c .before .moved .ensures) (c .done .ensures))
+    hears-none _ _ _ _ _ _ _ _ b (k .before .before .before .pre .1) (k .before .if1 .left) (k .is-clear .ensures) (not-false _ (n .before .before .before .if2 .left)) (n .asked-from .ensures) (c .before .before .enum-told .given .1) (c .before .moved .ensures) (c .done .ensures))
     (λ c κs. search needs)
     (λ c κs. search needs)
     (λ c. search (hears-unfit, not-true, not-false))
@@ -36,4 +36,4 @@ answer-spec =
     let f = c .before .before .before in
     let n = f .before .before .before .before in
     let k = n .before .before .before .before in
-    hears-fit _ _ _ _ _ _ _ _ _ _ _ b (k .before .before .before .pre .1) (k .before .if1 .left) (k .is-clear .ensures) (not-false _ (n .before .before .before .if2 .left)) (n .next-asked .ensures) (f .before .before .define .given .1) (f .answer-fits .ensures) (not-false _ (c .before .before .if3 .left)) (c .before .answered .ensures) (c .done2 .ensures)))
+    hears-fit _ _ _ _ _ _ _ _ _ _ _ b (k .before .before .before .pre .1) (k .before .if1 .left) (k .is-clear .ensures) (not-false _ (n .before .before .before .if2 .left)) (n .asked-from .ensures) (f .before .before .define .given .1) (f .answer-fits .ensures) (not-false _ (c .before .before .if3 .left)) (c .before .answered .ensures) (c .done2 .ensures)))

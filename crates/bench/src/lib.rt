@@ -12,6 +12,7 @@ pub mod file;
 pub mod listen;
 pub mod name;
 pub mod print;
+pub mod refusal;
 pub mod reply;
 pub mod state;
 

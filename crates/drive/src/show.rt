@@ -1,11 +1,7 @@
 // Printing: bytes as a person reads them, and answers.
-ghost use mathlib.Core.Path.{_≡_};
-ghost use lib.ListN.{getD};
-ghost use Rattle.paper.specs.Refusal.{figures};
-ghost use Rattle.line.specs.View.{refusalOf};
+use bench::refusal::number_of;
 use libc::STDOUT_FILENO;
 use line::command::Answer;
-use line::command::Refusal;
 
 // A text as it is.
 pub fn say(text: &[u8]) {
@@ -37,30 +33,6 @@ pub fn show(bytes: &[u8]) {
         show_byte(bytes[i]);
     }
     say(b"]\n");
-}
-
-// A refusal's number.
-fn number_of(why: Refusal) -> usize
-    ensures { λ r. ⌜ r ≡ getD (figures (refusalOf why)) 0 0 ⌝ }
-{
-    match why {
-        Refusal::TooLong => 1,
-        Refusal::ControlByte => 2,
-        Refusal::NotNow => 3,
-        Refusal::Unknown => 4,
-        Refusal::Malformed => 5,
-        Refusal::OutOfRange => 6,
-        Refusal::Overfull => 7,
-        Refusal::IsSpoiled => 8,
-        Refusal::Unsound { line: _ } => 9,
-        Refusal::NameTaken => 10,
-        Refusal::NoRoom => 11,
-        Refusal::Absent => 12,
-        Refusal::Unfit => 13,
-        Refusal::Overrun => 14,
-        Refusal::TooShort => 15,
-        Refusal::NotPrinting => 16,
-    }
 }
 
 // An answer: the bytes that it reports, or its number.

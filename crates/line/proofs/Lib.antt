@@ -12,3 +12,4 @@ pub mod Record
 pub mod Judged
 pub mod Lent
 pub mod RoundTrips
+pub mod Unique

@@ -1,0 +1,5 @@
+pub mod Reporting
+pub mod Saying
+pub mod Spacing
+pub mod Coming
+pub mod Running

@@ -186,9 +186,9 @@ unfolding packedStore packed
 count-bytes store fs e = ap (λ s. s .used) e ∙ entries-used fs
 
 -- the store's room is the paper's
-roomy : (session : Session) (store : Store) (t : Bool) (a : At session store) (d : Drafting session (a .forms) (a .state)) → Rooms session store t → t ≡ hasRoom (a .forms) (d .lines)
+room-told : (session : Session) (store : Store) (t : Bool) (a : At session store) (d : Drafting session (a .forms) (a .state)) → Rooms session store t → t ≡ hasRoom (a .forms) (d .lines)
 unfolding packed hasRoom
-roomy session store t a d h =
+room-told session store t a d h =
     let k = store-kept store (a .forms) (a .there) (a .sane .forms) in
     let count : length (k .forms) ≡ length (a .forms) = sym (ap (λ s. s .count) (k .is)) ∙ count-forms store (a .forms) (a .there) in
     let bytes : length (textsOf (k .forms)) ≡ used (a .forms) = sym (ap (λ s. s .used) (k .is)) ∙ count-bytes store (a .forms) (a .there) in
@@ -205,7 +205,7 @@ checks-full session store line t next r b c l h m n e k = record { obeys = λ a.
   where
     go : (a : At session store) → Drafting session (a .forms) (a .state) → Does (obey (length b) (a .forms) (a .state) (file finish)) b b r
     go a d =
-        let full : hasRoom (a .forms) (d .lines) ≡ false = sym (roomy session store t a d m) ∙ not-true t n in
+        let full : hasRoom (a .forms) (d .lines) ≡ false = sym (room-told session store t a d m) ∙ not-true t n in
         rw (d .is, sound session _ _ line d l h, if-false (hasRoom (a .forms) (d .lines)) _ _ full) (k (a .forms) P.idle b e (a .there))
 
 -- where there is room the store can take the form
@@ -214,7 +214,7 @@ pub room-left : (session : Session) (store : Store) (t : Bool) → At session st
 unfolding hasRoom
 room-left session store t a c m y =
     let d = drafting session store a c in
-    let room : hasRoom (a .forms) (d .lines) ≡ true = sym (roomy session store t a d m) ∙ not-false t y in
+    let room : hasRoom (a .forms) (d .lines) ≡ true = sym (room-told session store t a d m) ∙ not-false t y in
     let count = count-forms store (a .forms) (a .there) in
     let bytes = count-bytes store (a .forms) (a .there) in
     let few = ltb-true (length (a .forms)) 8 (and-left _ _ room) in
@@ -240,7 +240,7 @@ checks-stored session store line t next more r b c l h m y e w k = record { obey
   where
     go : (a : At session store) → Drafting session (a .forms) (a .state) → Does (obey (length b) (a .forms) (a .state) (file finish)) b b r
     go a d =
-        let room : hasRoom (a .forms) (d .lines) ≡ true = sym (roomy session store t a d m) ∙ not-false t y in
+        let room : hasRoom (a .forms) (d .lines) ≡ true = sym (room-told session store t a d m) ∙ not-false t y in
         let holds : more ≡ packedStore (stored (a .forms) (d .name) (d .lines)) =
         w (entriesOf (a .forms)) (a .there) ∙ rw (draft-text session _ _ d, draft-name session _ _ d, entries-stored) in
         rw (d .is, sound session _ _ line d l h, if-true (hasRoom (a .forms) (d .lines)) _ _ room) (k (stored (a .forms) (d .name) (d .lines)) P.idle b e holds)

@@ -11,7 +11,7 @@ use borrow.Author.Tests.{leb-true}
 use Rattle.paper.specs.Byte.{if_then_else_, between}
 use Rattle.paper.specs.Line.{Got, got, bad, followed, give, one, isDigit, digit, moreDigits}
 use Rattle.paper.proofs.Law.{and-right}
-use Rattle.text.specs.Place.{from, said, placeOf, Says}
+use Rattle.text.specs.Place.{from, said, placeAfter, Says}
 use Rattle.text.specs.declared.read.Number.{Number}
 use Rattle.text.specs.declared.read.Number.the-variants.{Value, Bad}
 
@@ -91,7 +91,7 @@ count-begins s n k at h l i = record { goal = refl; small = begins n k h l; insi
 
 -- a turn that reads a digit has one fewer left
 pub count-turns : (s : List ℕ) (g : Got ℕ) (left n at d next : ℕ) (a : Number) → Counting s g left n at → 0 < left → Says s (digit (from s at)) a → a ≡ Value d next → Counting s g (left - 1) (n * 10 + d) next
-unfolding placeOf
+unfolding placeAfter
 count-turns s g zero n at d next a c p h e = absurd (omega arith)
 count-turns s g (suc k) n at d next a c p h e =
     let one′ : suc k - 1 ≡ k = omega arith in
@@ -104,12 +104,12 @@ count-turns s g (suc k) n at d next a c p h e =
 
 -- where no digit stands the loop has read the number
 pub count-stops : (s : List ℕ) (g : Got ℕ) (left n at : ℕ) (a : Number) → Counting s g left n at → Says s (digit (from s at)) a → a ≡ Bad → Says s g (Value n at)
-unfolding said placeOf
+unfolding said placeAfter
 count-stops s g left n at a c h e = record { says = sym (c .goal ∙ more-ends s left n at a h e); inside = c .inside }
 
 -- and so it has once no digit may follow
 pub count-ends : (s : List ℕ) (g : Got ℕ) (left n at : ℕ) → Counting s g left n at → left ≤ 0 → Says s g (Value n at)
-unfolding said placeOf moreDigits
+unfolding said placeAfter moreDigits
 count-ends s g zero n at c h = record { says = sym (c .goal); inside = c .inside }
 count-ends s g (suc k) n at c h = absurd (omega arith)
 

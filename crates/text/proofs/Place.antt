@@ -14,7 +14,7 @@ use Rattle.paper.specs.Byte.{if_then_else_, between}
 use Rattle.paper.specs.Line.{Got, got, bad, Reader, followed, give, one, isDigit, digit, comma, byte}
 use Rattle.paper.specs.Read.{orElse}
 use Rattle.paper.proofs.Part.{orElse-got, orElse-bad}
-use Rattle.text.specs.Place.{byteAt, from, said, placeOf, Says, withComma}
+use Rattle.text.specs.Place.{byteAt, from, said, placeAfter, Says, withComma}
 use Rattle.text.specs.declared.read.Number.{Number}
 use Rattle.text.specs.declared.read.Number.the-variants.{Value, Bad}
 
@@ -39,12 +39,12 @@ one-passes test s at e h = rw (drop-cons s at 0 h, e, add-one)
 
 -- nothing was read, and the answer says so
 says-bad : (s : List ℕ) (g : Got ℕ) → g ≡ bad → Says s g Bad
-unfolding said placeOf
+unfolding said placeAfter
 says-bad s g e = record { says = sym e; inside = zero-le }
 
 -- a value was read, and the answer has it with the next place
 says-got : (s : List ℕ) (g : Got ℕ) (n next : ℕ) → g ≡ got n (from s next) → next ≤ length s → Says s g (Value n next)
-unfolding said placeOf
+unfolding said placeAfter
 says-got s g n next e h = record { says = sym e; inside = h }
 
 -- a byte between two bounds: this one is too low
@@ -75,22 +75,22 @@ between-says lo hi s at b e p l h =
 
 -- one part after another: the first is not there
 pub followed-fails : (s : List ℕ) (g : Got ℕ) (f : ℕ → Reader ℕ) (a : Number) → Says s g a → a ≡ Bad → Says s (followed g f) Bad
-unfolding said placeOf followed
+unfolding said placeAfter followed
 followed-fails s g f a h e = record { says = rw (← h .says, e); inside = zero-le }
 
 -- the first is there, and the rest is read behind it
 pub followed-goes : (s : List ℕ) (g : Got ℕ) (f : ℕ → Reader ℕ) (a r : Number) (n next : ℕ) → Says s g a → a ≡ Value n next → Says s (f n (from s next)) r → Says s (followed g f) r
-unfolding said placeOf followed
+unfolding said placeAfter followed
 followed-goes s g f a r n next h e k = record { says = k .says ∙ rw (← h .says, e); inside = k .inside }
 
 -- a value for which nothing is read
 pub give-says : (s : List ℕ) (n m next : ℕ) → next ≤ length s → m ≡ n → Says s (give n (from s next)) (Value m next)
-unfolding said placeOf give
+unfolding said placeAfter give
 give-says s n m next h e = record { says = rw e; inside = h }
 
 -- the place behind what was read is in the line, or is its end
 pub said-inside : (s : List ℕ) (g : Got ℕ) (a : Number) (n next : ℕ) → Says s g a → a ≡ Value n next → next ≤ length s
-unfolding placeOf
+unfolding placeAfter
 said-inside s g a n next h e = rw e at (h .inside)
 
 -- the same where the first part is known outright
@@ -106,18 +106,18 @@ digit-says s at b e l h =
 
 -- the comma behind a part: there is no part
 pub comma-none : (s : List ℕ) (part : Number) → part ≡ Bad → Says s (withComma (said s part)) Bad
-unfolding withComma said placeOf followed
+unfolding withComma said placeAfter followed
 comma-none s part e = record { says = rw e; inside = zero-le }
 
 -- there is a part and no comma behind it
 pub comma-lacks : (s : List ℕ) (part : Number) (n next b : ℕ) → part ≡ Value n next → b ≡ byteAt s next → (b ≡ 44 → ⊥) → Says s (withComma (said s part)) Bad
-unfolding withComma said placeOf followed comma byte
+unfolding withComma said placeAfter followed comma byte
 comma-lacks s part n next b p e h =
     says-bad s _ (rw (p, one-fails (λ c. eqb c 44) s next (ne-eqb (byteAt s next) 44 λ q. h (e ∙ q))))
 
 -- there are both
 pub comma-stands : (s : List ℕ) (part : Number) (n next b : ℕ) → part ≡ Value n next → b ≡ byteAt s next → b ≡ 44 → Says s (withComma (said s part)) (Value n (next + 1))
-unfolding withComma said placeOf followed comma byte give
+unfolding withComma said placeAfter followed comma byte give
 comma-stands s part n next b p e h =
     let there : next < length s = stands s next b e (omega arith) in
     says-got s _ n (next + 1)
@@ -126,14 +126,14 @@ comma-stands s part n next b p e h =
 
 -- of two readers the first finds something
 pub else-first : (p q : Reader ℕ) (s x : List ℕ) (a : Number) (n next : ℕ) → Says s (p x) a → a ≡ Value n next → Says s (orElse p q x) (Value n next)
-unfolding said placeOf orElse
+unfolding said placeAfter orElse
 else-first p q s x a n next h e =
     let first : p x ≡ got n (from s next) = sym (h .says) ∙ rw e in
     says-got s _ n next (orElse-got p q x n (from s next) first) (rw e at (h .inside))
 
 -- the first finds nothing, and the second is asked
 pub else-second : (p q : Reader ℕ) (s x : List ℕ) (a r : Number) → Says s (p x) a → a ≡ Bad → Says s (q x) r → Says s (orElse p q x) r
-unfolding said placeOf
+unfolding said placeAfter
 else-second p q s x a r h e k =
     let first : p x ≡ bad = sym (h .says) ∙ rw e in
     record { says = k .says ∙ sym (orElse-bad p q x first); inside = k .inside }

@@ -27,14 +27,14 @@ said s (Value n next) = got n (from s next)
 said s Bad = bad
 
 -- the place behind what was read
-unfoldable pub placeOf : Number → ℕ
-placeOf (Value n next) = next
-placeOf Bad = 0
+unfoldable pub placeAfter : Number → ℕ
+placeAfter (Value n next) = next
+placeAfter Bad = 0
 
 -- an answer that says what a reader of the paper gives, with its next place in the line
 pub record Says (s : List ℕ) (g : Got ℕ) (r : Number) : Type 0 where
   pub says : said s r ≡ g
-  pub inside : placeOf r ≤ length s
+  pub inside : placeAfter r ≤ length s
 
 -- a part that was read, with the comma behind it
 unfoldable pub withComma : Got ℕ → Got ℕ

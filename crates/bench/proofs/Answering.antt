@@ -15,7 +15,8 @@ use Rattle.paper.specs.Command.{FormLine, ask, isShown}
 use Rattle.paper.specs.Set.{fits}
 use Rattle.paper.specs.Form.{Form, textOf, withinLimits, asked}
 use Rattle.paper.specs.State.{allIn, Storable, fitting, Sound}
-use Rattle.paper.proofs.Law.{if-true, if-false, and-left, and-right, and-both}
+use Rattle.paper.proofs.Invariant.{fitting-more}
+use Rattle.paper.proofs.Law.{if-true, if-false, and-left, and-right}
 use Rattle.paper.proofs.Text.{clear-control, clear-between}
 use Rattle.paper.specs.Bench as P
 use Rattle.text.specs.Place.{from}
@@ -273,16 +274,6 @@ hears-unfit session store place s clear x asks next fit r b m h c e p is judge n
     rw (f .left, if-false (fits (f .first) s) _ _ (sym (judge (f .first) (f .same) (c .0 e)) ∙ no′))
     (d (a .forms) _ b (w .is) (a .there)))
 
--- fitting answers and one more that fits the next definition
-fitting-next : (ds : List C.Define) (given : List (List ℕ)) (d : C.Define) (rest : List C.Define) (s : List ℕ) → drop (length given) ds ≡ d ∷ rest
-    → fitting (take (length given) ds) given ≡ true → fits d s ≡ true → fitting (take (suc (length given)) ds) (given ++ (s ∷ [])) ≡ true
-unfolding fitting
-fitting-next [] [] d rest s e f h = cc
-fitting-next [] (a ∷ given) d rest s e f h = f
-fitting-next (k ∷ ds) [] d rest s e f h = let one : k ≡ d = cc in and-both (fits k s) true (rw one h) refl
-fitting-next (k ∷ ds) (a ∷ given) d rest s e f h =
-    and-both (fits k a) _ (and-left (fits k a) _ f) (fitting-next ds given d rest s e (and-right (fits k a) _ f) h)
-
 -- an answer that fits its definition
 abbrev fits-as : (session : Session) (st : P.Session) (place : ℕ) (s : List ℕ) (asks : Define) (next : ℕ) (w : Waits session st place) (f : Asks (w .lines) (length (w .given)) asks next)
     → fits (f .first) s ≡ true → Fitting session s next
@@ -292,7 +283,9 @@ fits-as session st place s asks next w f y = record {
   storable = w .storable;
   is = w .is;
   place = f .place;
-  fit = fitting-next (asked (w .lines)) (w .given) (f .first) _ s (f .left) (w .fit) y;
+  fit =
+      let one : length (w .given ++ (s ∷ [])) ≡ suc (length (w .given)) = omega (arith, length-append (w .given) (s ∷ [])) in
+      rw one at (fitting-more (asked (w .lines)) (w .given) (f .first) _ s (f .left) (w .fit) y .0);
 }
 
 -- the line is one

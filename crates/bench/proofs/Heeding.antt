@@ -6,7 +6,6 @@ use mathlib.Core.List.{List, [], _∷_}
 use denote.Enum.Declared.{tagOf}
 use types.Run.{OneOf, miss}
 use lib.ListN.{length}
-use borrow.Author.Tests.{leb-true}
 use Rattle.paper.specs.Command as C
 use Rattle.paper.specs.Form.{Form}
 use Rattle.paper.specs.Read.{command, read}
@@ -14,6 +13,7 @@ use Rattle.paper.specs.Refusal as R
 use Rattle.paper.specs.Bench as P
 use Rattle.paper.proofs.Test.{held}
 use Rattle.paper.proofs.RoundTrip.{read-inRange}
+use Rattle.paper.proofs.Invariant.{print-in}
 use Rattle.line.specs.View.{width, refusalOf, textIn, putOf, barOf, viewOf, Stand}
 use Rattle.line.specs.Given.{IsRead}
 use Rattle.line.specs.declared.command.Refusal.{Refusal}
@@ -116,13 +116,13 @@ names-delete s c name i e =
 
 -- the sets of a `P` line: some
 pub prints-some : (s : List ℕ) (c : Command) (sets copies : ℕ) → IsRead s c → c ≡ L.Print sets copies → 1 ≤ sets
-unfolding viewOf C.inRange C.ranges
-prints-some s c sets copies i e = leb-true 1 sets (held _ (read-range s c (C.print sets copies) i (ap (viewOf s) e)) .0 .0)
+unfolding viewOf
+prints-some s c sets copies i e = print-in width sets copies (read-range s c (C.print sets copies) i (ap (viewOf s) e)) .0
 
 -- and not too many
 pub prints-few : (s : List ℕ) (c : Command) (sets copies : ℕ) → IsRead s c → c ≡ L.Print sets copies → sets ≤ 65535
-unfolding viewOf C.inRange C.ranges
-prints-few s c sets copies i e = leb-true sets 65535 (held _ (read-range s c (C.print sets copies) i (ap (viewOf s) e)) .0 .1 .0)
+unfolding viewOf
+prints-few s c sets copies i e = print-in width sets copies (read-range s c (C.print sets copies) i (ap (viewOf s) e)) .1
 
 -- every other line is one for a form
 pub keeps-line : (s : List ℕ) (c : Command) → OneOf (5 ∷ 6 ∷ 7 ∷ 8 ∷ 9 ∷ 10 ∷ 11 ∷ 12 ∷ 13 ∷ []) (tagOf Tag.the-type c) → Keeps s c

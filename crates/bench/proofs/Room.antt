@@ -8,13 +8,14 @@ use mathlib.Core.Option.{Option, none, some, Option·some-ne-none}
 use native.Mathlib.Omega.{arith}
 use lib.ListN.{length, take, length-append}
 use lib.Dec.{leb, eqb}
-use borrow.Author.Tests.{leb-true, eqb-true, eqb-false, eq-eqb}
+use borrow.Author.Tests.{leb-true, eqb-true, eqb-false, eq-eqb, not-true}
 use Rattle.paper.specs.Byte.{if_then_else_}
 use Rattle.paper.specs.Line.{lf}
 use Rattle.paper.specs.Command.{Value, counter, variable, Define, counting, varying, FormLine, draw, define, drawRanges, defineRanges, ranges, allOf, inRange}
 use Rattle.paper.specs.Form.{asked, valueOf, lenOf, sameValue, defined, isSome, valueSound, firstBroken, unsoundAt}
 use Rattle.paper.specs.Set.{fits}
 use Rattle.paper.specs.State.{allIn, Storable, fitting}
+use Rattle.paper.proofs.Invariant.{not-some}
 use Rattle.paper.proofs.Law.{and-left, and-right}
 use Rattle.paper.proofs.Test.{Held, held, either, tests}
 use Rattle.paper.proofs.Filled.{broken-cons, defined-more}
@@ -100,12 +101,6 @@ unfolding fits lenOf
 fits-len (counting n len letter by prompt) a e = leb-true _ _ (and-right (leb 1 (length a)) _ (and-left _ _ e))
 fits-len (varying n len letter prompt) a e = leb-true _ _ (and-left _ _ e)
 
--- a value that is not defined
-not-defined : (o : Option Define) → not (isSome o) ≡ true → o ≡ none
-unfolding isSome
-not-defined none e = refl
-not-defined (some d) e = absurd (false≢true e)
-
 -- answers to the first definitions of a form's lines have the room that is left above them
 given-room : (k : ℕ) (above : List Define) (ls : List FormLine) (given : List (List ℕ)) → allIn width ls ≡ true → firstBroken k above ls ≡ none
     → fitting (take (length given) (asked ls)) given ≡ true → length (answersText given) ≤ left above
@@ -119,7 +114,7 @@ given-room k above (define d ∷ ls) [] i b f = omega arith
 given-room k above (define d ∷ ls) (a ∷ more) i b f =
     let (place, sound, below) = broken-cons k above (define d) ls b in
     let rest = given-room (suc k) (above ++ (d ∷ [])) ls more (and-right (allOf (defineRanges d)) _ i) below (and-right (fits d a) _ f) in
-    let taken = left-taken above d (held (defineRanges d) (and-left _ _ i)) (not-defined _ (sound .0)) in
+    let taken = left-taken above d (held (defineRanges d) (and-left _ _ i)) (not-some _ (not-true _ (sound .0))) in
     omega (arith, length-append a (lf ∷ answersText more), rest, taken, fits-len d a (and-left _ _ f))
 
 -- at first all is left

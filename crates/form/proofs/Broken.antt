@@ -23,7 +23,7 @@ use Rattle.line.specs.declared.command.Command.{Command}
 use Rattle.form.specs.Walk.{firstLine}
 use Rattle.form.specs.Sound.{Agrees, Judges, lineNumber}
 use Rattle.form.specs.declared.check.Checked.{Checked}
-use Rattle.form.proofs.Lines.{lineAt, end-inside, line-turn, lines-end}
+use Rattle.form.proofs.Lines.{lineAt, end-inside, Turn, line-turn, line-reads, lines-end}
 
 -- a line that keeps the rules leaves the rest to the lines below it
 broken-below : (k : ℕ) (above : List P.Define) (l : P.FormLine) (ls : List P.FormLine) → all (rules k above l) ≡ true → firstBroken k above (l ∷ ls) ≡ firstBroken (k + 1) (above ++ asked (l ∷ [])) ls
@@ -64,14 +64,20 @@ check-begins text lens a = record {
 
 module _ (text lens : List ℕ) (at k end : ℕ) (c : Command) (r : Checked) (h : Checking text lens at k) (p : at < length text)
     (e : end ≡ at + length (firstLine (from text at))) (read : IsRead (lineAt text at end) c) (checks : Checks k lens c r) where
+  -- the line is judged below the definitions above it
+  judged : (above : List P.Define) → Agrees lens above → {rest : List P.FormLine} (t : Turn text at rest end) → Judges k above (t .line) r
+  judged above a t =
+      let d = line-reads (lineAt text at end) (t .line) c (t .stands) (t .range) read in
+      checks (lineText (t .line)) (t .line) above (d .view) (d .stand) (t .range) a
+
   -- a line keeps the rules
   pub check-turns : r .sound ≡ true → Checking text (r .lens) (end + 1) (k + 1)
   check-turns y = record { few = omega (arith, h .few, end-inside text at end p e .begins); below = λ ls q i. goes ls (h .below ls q i) }
     where
       goes : (ls : List P.FormLine) → Below text ls lens at k → Below text ls (r .lens) (end + 1) (k + 1)
       goes ls b =
-          let t = line-turn text at (b .left) end c (b .here) (b .inside) p e read in
-          let j = checks (lineText (t .line)) (t .line) (b .above) (t .view) (t .stand) (t .range) (b .agrees) in
+          let t = line-turn text at (b .left) end (b .here) (b .inside) p e in
+          let j = judged (b .above) (b .agrees) t in
           record {
             left = t .more;
             above = b .above ++ asked (t .line ∷ []);
@@ -86,8 +92,8 @@ module _ (text lens : List ℕ) (at k end : ℕ) (c : Command) (r : Checked) (h 
   unfolding lineNumber
   check-breaks n ls q i =
       let b = h .below ls q i in
-      let t = line-turn text at (b .left) end c (b .here) (b .inside) p e read in
-      let j = checks (lineText (t .line)) (t .line) (b .above) (t .view) (t .stand) (t .range) (b .agrees) in
+      let t = line-turn text at (b .left) end (b .here) (b .inside) p e in
+      let j = judged (b .above) (b .agrees) t in
       sym (ap lineNumber (b .same ∙ ap (firstBroken k (b .above)) (t .is) ∙ broken-here k (b .above) (t .line) (t .more) (sym (j .sound) ∙ n)))
 
 -- no line is left, and one of the first two is missing

@@ -2,9 +2,11 @@
 use Prim.Native.Nat.{ℕ, zero, suc, _≤_, _<_}
 use mathlib.Core.Path.{_≡_, refl, sym, _∙_}
 use mathlib.Core.Bool.{Bool, true, false, not, and-true, false≢true}
-use mathlib.Core.List.{List, [], append-nil}
+use mathlib.Core.List.{List, [], _∷_, append-nil}
 use mathlib.Core.Option.{none}
 use native.Mathlib.Omega.{arith}
+use denote.Enum.Declared.{tagOf}
+use types.Run.{OneOf, miss}
 use lib.ListN.{getD, set}
 use lib.Dec.{ltb, eqb}
 use borrow.Author.Tests.{lt-ltb, le-ltb, ne-eqb}
@@ -13,8 +15,10 @@ use Rattle.paper.specs.Command.{all, inRange, ranges, defineRanges}
 use Rattle.paper.specs.Form.{asked, valueOf, lenOf, defined, isSome, isSize, isDirection, drawing, inPlace, contentSound, drawSound, valueSound, rules}
 use Rattle.paper.specs.Read.{command}
 use Rattle.paper.proofs.Test.{held, tests}
-use Rattle.line.specs.View.{width, viewOf}
+use Rattle.line.specs.View.{width, viewOf, barOf}
 use Rattle.line.specs.declared.command.Command.{Command}
+use Rattle.line.specs.declared.command.Command.the-variants as L
+use Rattle.line.proofs.command.Command as Tag
 use Rattle.form.specs.Sound.{slotOf, Agrees, Judges}
 use Rattle.form.specs.declared.check.Checked.{Checked}
 use Rattle.form.proofs.Lines.{Keeps, kept}
@@ -58,7 +62,7 @@ unfolding drawSound
 direction-judged k lens above d a = plain-judged k lens above _ _ a refl (places k .direction d)
 
 -- a bar or a frame
-pub other-judged : (k : ℕ) (lens : List ℕ) (above : List P.Define) (d : P.Draw) → drawSound above d ≡ [] → drawing isSize (P.draw d) ≡ false → drawing isDirection (P.draw d) ≡ false → Agrees lens above → Judges k above (P.draw d) (record { sound = ltb 1 k; lens = lens })
+other-judged : (k : ℕ) (lens : List ℕ) (above : List P.Define) (d : P.Draw) → drawSound above d ≡ [] → drawing isSize (P.draw d) ≡ false → drawing isDirection (P.draw d) ≡ false → Agrees lens above → Judges k above (P.draw d) (record { sound = ltb 1 k; lens = lens })
 other-judged k lens above d n s z a = plain-judged k lens above d _ a n (places k .other (P.draw d) s z)
 
 -- a text or a definition is neither of the first two lines
@@ -115,8 +119,39 @@ define-range (P.varying n len letter prompt) e =
 pub line-judged : (s : List ℕ) (c d : Command) (k : ℕ) (above : List P.Define) (l : P.FormLine) (r : Checked) → c ≡ d → Keeps (λ l. Judges k above l r) (viewOf s d) → viewOf s c ≡ command (P.keep l) → Judges k above l r
 line-judged s c d k above l r e j v = kept (λ l. Judges k above l r) s c d l e j v
 
--- the lines that draw, by their records
-pub ruleset judging = (line-judged, size-judged, direction-judged, other-judged)
+-- the first two lines, by their records
+pub ruleset judging = (line-judged, size-judged, direction-judged)
+
+-- every other record: a bar's or a frame's, or one of no line of a form
+abbrev others : List ℕ
+others = 0 ∷ 1 ∷ 2 ∷ 3 ∷ 4 ∷ 8 ∷ 9 ∷ 10 ∷ 11 ∷ 14 ∷ 15 ∷ 16 ∷ 17 ∷ 18 ∷ []
+
+-- a bar or a frame goes anywhere below the first two lines
+others-keep : (s : List ℕ) (c : Command) (k : ℕ) (lens : List ℕ) (above : List P.Define) → OneOf others (tagOf Tag.the-type c) → Agrees lens above → Keeps (λ l. Judges k above l (record { sound = ltb 1 k; lens = lens })) (viewOf s c)
+unfolding Keeps viewOf barOf drawSound drawing isSize isDirection
+others-keep s L.Empty k lens above h a = tt
+others-keep s L.New k lens above h a = tt
+others-keep s L.Finish k lens above h a = tt
+others-keep s L.Inform k lens above h a = tt
+others-keep s L.Ask k lens above h a = tt
+others-keep s (L.Size p₁ p₂) k lens above h a = absurd (miss others 5 tt h)
+others-keep s (L.Direction d) k lens above h a = absurd (miss others 6 tt h)
+others-keep s (L.Text put) k lens above h a = absurd (miss others 7 tt h)
+others-keep s (L.Black b) k lens above h a = other-judged k lens above _ refl refl refl a
+others-keep s (L.Flip b) k lens above h a = other-judged k lens above _ refl refl refl a
+others-keep s (L.White b) k lens above h a = other-judged k lens above _ refl refl refl a
+others-keep s (L.Frame x₁ y₁ t x₂ y₂) k lens above h a = other-judged k lens above _ refl refl refl a
+others-keep s (L.Counting n len step prompt) k lens above h a = absurd (miss others 12 tt h)
+others-keep s (L.Varying n len prompt) k lens above h a = absurd (miss others 13 tt h)
+others-keep s (L.Start name) k lens above h a = tt
+others-keep s (L.Recall name) k lens above h a = tt
+others-keep s (L.Delete name) k lens above h a = tt
+others-keep s (L.Print sets copies) k lens above h a = tt
+others-keep s (L.Refused why) k lens above h a = tt
+
+-- and is judged by that
+pub others-judged : (s : List ℕ) (c : Command) (k : ℕ) (lens : List ℕ) (above : List P.Define) (l : P.FormLine) → OneOf others (tagOf Tag.the-type c) → viewOf s c ≡ command (P.keep l) → Agrees lens above → Judges k above l (record { sound = ltb 1 k; lens = lens })
+others-judged s c k lens above l h v a = line-judged s c c k above l _ refl (others-keep s c k lens above h a) v
 
 -- a record that defines a value is judged as its definition
 pub define-judged : (s : List ℕ) (c e : Command) (k : ℕ) (lens : List ℕ) (above : List P.Define) (l : P.FormLine) (r : Checked) (d : P.Define) (slot len : ℕ) → c ≡ e → viewOf s e ≡ command (P.keep (P.define d)) → slot ≡ slotOf (valueOf d) → len ≡ lenOf d → ((above : List P.Define) (d : P.Define) → Agrees lens above → slot ≡ slotOf (valueOf d) → len ≡ lenOf d → slot < 26 → 1 ≤ len → Judges k above (P.define d) r) → viewOf s c ≡ command (P.keep l) → inRange width (P.keep l) ≡ true → Agrees lens above → Judges k above l r

@@ -3,3 +3,4 @@ pub mod Wanted
 pub mod Slots
 pub mod Judged
 pub mod Broken
+pub mod Defined

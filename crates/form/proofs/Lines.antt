@@ -86,17 +86,16 @@ kept K s c d l e k v = let is : viewOf s d ≡ command (keep l) = rw (← e) v i
 unfoldable pub lineAt : List ℕ → ℕ → ℕ → List ℕ
 lineAt text at end = take (end - at) (drop at text)
 
--- a line of a form at a place of its text: its record is the line's, and behind its LF the other lines stand
-pub record Turn (text : List ℕ) (at : ℕ) (rest : List FormLine) (end : ℕ) (c : Command) : Type 0 where
+-- a line of a form at a place of its text, and behind its LF the other lines
+pub record Turn (text : List ℕ) (at : ℕ) (rest : List FormLine) (end : ℕ) : Type 0 where
   pub line : FormLine
   pub more : List FormLine
   pub is : rest ≡ line ∷ more
+  pub stands : lineAt text at end ≡ lineText line
   pub place : end ≡ at + length (lineText line)
   pub after : from text (end + 1) ≡ textOf more
   pub below : allIn width more ≡ true
   pub range : inRange width (keep line) ≡ true
-  pub view : viewOf (lineText line) c ≡ command (keep line)
-  pub stand : Stand (lineText line) c
 
 -- behind the last line nothing is left
 pub lines-end : (text : List ℕ) (at : ℕ) (rest : List FormLine) → from text at ≡ textOf rest → length text ≤ at → rest ≡ []
@@ -108,23 +107,31 @@ lines-end text at (l ∷ more) e h =
     absurd (omega (arith, length-append (normal (keep l)) (lf ∷ textOf more), some))
 
 -- the line at a place before the end
-pub line-turn : (text : List ℕ) (at : ℕ) (rest : List FormLine) (end : ℕ) (c : Command) → from text at ≡ textOf rest → allIn width rest ≡ true → at < length text → end ≡ at + length (firstLine (from text at)) → IsRead (lineAt text at end) c → Turn text at rest end c
+pub line-turn : (text : List ℕ) (at : ℕ) (rest : List FormLine) (end : ℕ) → from text at ≡ textOf rest → allIn width rest ≡ true → at < length text → end ≡ at + length (firstLine (from text at)) → Turn text at rest end
 unfolding from textOf linesText allIn normal lineAt
-line-turn text at [] end c e i h p r = absurd (omega (arith, length-drop at text, ap length e))
-line-turn text at (l ∷ more) end c e i h p r =
+line-turn text at [] end e i h p = absurd (omega (arith, length-drop at text, ap length e))
+line-turn text at (l ∷ more) end e i h p =
     let inside : inRange width (keep l) ≡ true = and-left _ (allIn width more) i in
     let first : firstLine (drop at text) ≡ lineText l = rw e (first-line (lineText l) _ (normal-control width (keep l) inside)) in
     let place : end ≡ at + length (lineText l) = p ∙ rw first in
-    let line : take (end - at) (drop at text) ≡ lineText l = rw e (take-at (lineText l) _ (end - at) (omega arith)) in
     let behind : end + 1 ≡ at + (length (lineText l) + 1) = omega arith in
     record {
       line = l;
       more = more;
       is = refl;
+      stands = rw e (take-at (lineText l) _ (end - at) (omega arith));
       place = place;
       after = rw (behind, ← drop-drop, e) (drop-append-add (lineText l) _ 1);
       below = and-right (inRange width (keep l)) _ i;
       range = inside;
-      view = rw line at (r .view) ∙ read-normal width (keep l) (omega arith) inside;
-      stand = rw line at (r .stand);
     }
+
+-- the record of a line of a form is the line's
+pub record Read (l : FormLine) (c : Command) : Type 0 where
+  pub view : viewOf (lineText l) c ≡ command (keep l)
+  pub stand : Stand (lineText l) c
+
+-- a line of a form reads as itself
+pub line-reads : (s : List ℕ) (l : FormLine) (c : Command) → s ≡ lineText l → inRange width (keep l) ≡ true → IsRead s c → Read l c
+unfolding normal
+line-reads s l c e i r = record { view = rw e at (r .view) ∙ read-normal width (keep l) (omega arith) i; stand = rw e at (r .stand) }

@@ -12,16 +12,13 @@ use borrow.Author.Tests.{le-leb, lt-leb}
 use Rattle.paper.specs.Byte.{every, between}
 use Rattle.paper.specs.Line.{isDigit}
 use Rattle.paper.specs.Command as P
-use Rattle.paper.specs.Command.{isShown}
+use Rattle.paper.specs.Command.{isShown, inRange}
 use Rattle.paper.specs.Form.{textOf}
-use Rattle.paper.specs.Read.{command}
 use Rattle.paper.specs.Set.{fits}
 use Rattle.paper.specs.Write.{lineText}
 use Rattle.paper.specs.State.{allIn}
 use Rattle.text.specs.Place.{from}
-use Rattle.line.specs.View.{width, viewOf, stepOf}
-use Rattle.line.specs.Given.{IsRead}
-use Rattle.line.specs.declared.command.Command.{Command}
+use Rattle.line.specs.View.{width, stepOf}
 use Rattle.line.specs.declared.command.Step.{Step}
 use Rattle.line.specs.declared.command.Step.the-variants.{Up, Down}
 use Rattle.form.specs.Walk.{firstLine}
@@ -32,17 +29,13 @@ use Rattle.form.specs.declared.asked.Line.{Line}
 use Rattle.form.specs.declared.asked.Line.the-variants.{Definition, Other}
 use Rattle.form.specs.declared.asked.Next.{Next}
 use Rattle.form.specs.declared.asked.Next.the-variants.{Asked, Nothing}
-use Rattle.form.proofs.Lines.{Keeps, kept, lineAt, line-turn, lines-end}
+use Rattle.form.proofs.Lines.{lineAt, line-turn, lines-end}
 
 -- a step of the code as the paper's is that step again
 pub step-again : (step : Step) → stepIn (stepOf step) ≡ step
 unfolding stepIn stepOf
 step-again (Up n) = refl
 step-again (Down n) = refl
-
--- a record tells a line of a form as what its case shows
-pub line-told : (s : List ℕ) (c d : Command) (r : Line) (l : P.FormLine) → c ≡ d → Keeps (λ l. r ≡ lineOf l) (viewOf s d) → viewOf s c ≡ command (P.keep l) → r ≡ lineOf l
-line-told s c d r l e k v = kept (λ l. r ≡ lineOf l) s c d l e k v
 
 -- an answer is the next definition of a text from a place on
 abbrev pub NextFrom : List ℕ → ℕ → Next → Type 0
@@ -84,13 +77,17 @@ unfolding lineOf nextOf
 defines-next at (P.draw d) more define e = cc
 defines-next at (P.define d) more define e = cc
 
+-- an answer says of a line of a form what it is
+abbrev pub Told : List ℕ → Line → Type 0
+Told s line = (l : P.FormLine) → s ≡ lineText l → inRange width (P.keep l) ≡ true → line ≡ lineOf l
+
 -- a line that only draws is passed over
-pub seek-turns : (text : List ℕ) (start at end : ℕ) (c : Command) (line : Line) → Seeking text start at → at < length text → end ≡ at + length (firstLine (from text at)) → IsRead (lineAt text at end) c → ((s : List ℕ) (l : P.FormLine) → viewOf s c ≡ command (P.keep l) → line ≡ lineOf l) → line ≡ Other → Seeking text start (end + 1)
-seek-turns text start at end c line h p e r told is = record { seeking = λ rest q i. go rest (h .seeking rest q i) }
+pub seek-turns : (text : List ℕ) (start at end : ℕ) (line : Line) → Seeking text start at → at < length text → end ≡ at + length (firstLine (from text at)) → Told (lineAt text at end) line → line ≡ Other → Seeking text start (end + 1)
+seek-turns text start at end line h p e told is = record { seeking = λ rest q i. go rest (h .seeking rest q i) }
   where
     go : (rest : List P.FormLine) → Left text start rest at → Left text start rest (end + 1)
     go rest l =
-        let t = line-turn text at (l .left) end c (l .here) (l .inside) p e r in
+        let t = line-turn text at (l .left) end (l .here) (l .inside) p e in
         record {
           left = t .more;
           here = t .after;
@@ -98,19 +95,19 @@ seek-turns text start at end c line h p e r told is = record { seeking = λ rest
           next =
               l .next
               ∙ ap (nextOf at) (t .is)
-              ∙ draws-next at (t .line) (t .more) (sym (told (lineText (t .line)) (t .line) (t .view)) ∙ is)
+              ∙ draws-next at (t .line) (t .more) (sym (told (t .line) (t .stands) (t .range)) ∙ is)
               ∙ ap (λ x. nextOf (x + 1) (t .more)) (sym (t .place));
         }
 
 -- a definition is found
-pub seek-finds : (text : List ℕ) (start at end : ℕ) (c : Command) (line : Line) (define : Define) → Seeking text start at → at < length text → end ≡ at + length (firstLine (from text at)) → IsRead (lineAt text at end) c → ((s : List ℕ) (l : P.FormLine) → viewOf s c ≡ command (P.keep l) → line ≡ lineOf l) → line ≡ Definition define → (rest : List P.FormLine) → from text start ≡ textOf rest → allIn width rest ≡ true → Asked define (end + 1) ≡ nextOf start rest
-seek-finds text start at end c line define h p e r told is rest q i =
+pub seek-finds : (text : List ℕ) (start at end : ℕ) (line : Line) (define : Define) → Seeking text start at → at < length text → end ≡ at + length (firstLine (from text at)) → Told (lineAt text at end) line → line ≡ Definition define → (rest : List P.FormLine) → from text start ≡ textOf rest → allIn width rest ≡ true → Asked define (end + 1) ≡ nextOf start rest
+seek-finds text start at end line define h p e told is rest q i =
     let l = h .seeking rest q i in
-    let t = line-turn text at (l .left) end c (l .here) (l .inside) p e r in
+    let t = line-turn text at (l .left) end (l .here) (l .inside) p e in
     sym
     (l .next
     ∙ ap (nextOf at) (t .is)
-    ∙ defines-next at (t .line) (t .more) define (sym (told (lineText (t .line)) (t .line) (t .view)) ∙ is)
+    ∙ defines-next at (t .line) (t .more) define (sym (told (t .line) (t .stands) (t .range)) ∙ is)
     ∙ ap (λ x. Asked define (x + 1)) (sym (t .place)))
 
 -- none is left

@@ -5,19 +5,25 @@ ghost use mathlib.Core.List.{List};
 ghost use Prim.Native.Nat.{ℕ};
 ghost use Rattle.paper.specs.Byte.{every};
 ghost use Rattle.paper.specs.Command as P;
-ghost use Rattle.paper.specs.Command.{isShown};
+ghost use Rattle.paper.specs.Command.{isShown, inRange};
 ghost use Rattle.paper.specs.Form.{textOf};
 ghost use Rattle.paper.specs.Line.{isDigit};
-ghost use Rattle.paper.specs.Read.{command};
 ghost use Rattle.paper.specs.Set.{fits};
 ghost use Rattle.paper.specs.State.{allIn};
+ghost use Rattle.paper.specs.Write.{lineText};
 ghost use Rattle.text.specs.Place.{from};
-ghost use Rattle.line.specs.View.{width, viewOf};
+ghost use Rattle.line.specs.View.{width};
 ghost use Rattle.form.specs.Asked.{defineOf, lineOf, nextOf};
 use crate::walk::line_end;
-use line::command::Command;
 use line::command::Step;
-use line::read::read_line;
+use line::parts::StepRead;
+use line::parts::digit_part;
+use line::parts::letter_part;
+use line::parts::number_part;
+use line::parts::step_part;
+use line::parts::two_digits_part;
+use text::read::Number;
+use text::read::byte_at;
 
 // A value to be asked for.
 pub enum Define {
@@ -31,46 +37,54 @@ pub enum Line {
     Other,
 }
 
-// A record that was read, as a line of a form.
-pub fn line_of(c: Command) -> Line
-    ensures { λ r. ⌜ ((s : List ℕ) (l : P.FormLine) → viewOf s c ≡ command (P.keep l) → r ≡ lineOf l) ⌝ }
+// The definition of a variable; its prompt is passed over.
+fn variable_in(s: &[u8]) -> Line
+    ensures { λ r. ⌜ ((n len letter : ℕ) (prompt : List ℕ) → now (s .entry) ≡ lineText (P.define (P.varying n len letter prompt)) → inRange width (P.keep (P.define (P.varying n len letter prompt))) ≡ true → r ≡ lineOf (P.define (P.varying n len letter prompt))) ⌝ }
 {
-    match c {
-        Command::Counting {
-            n,
-            len,
-            step,
-            prompt: _,
-        } => Line::Definition {
-            define: Define::Counter { n, len, step },
-        },
-        Command::Varying { n, len, prompt: _ } => Line::Definition {
-            define: Define::Variable { n, len },
-        },
-        Command::Empty => Line::Other,
-        Command::New => Line::Other,
-        Command::Finish => Line::Other,
-        Command::Inform => Line::Other,
-        Command::Ask => Line::Other,
-        Command::Size { p1: _, p2: _ } => Line::Other,
-        Command::Direction { d: _ } => Line::Other,
-        Command::Text { put: _ } => Line::Other,
-        Command::Black { bar: _ } => Line::Other,
-        Command::Flip { bar: _ } => Line::Other,
-        Command::White { bar: _ } => Line::Other,
-        Command::Frame {
-            x1: _,
-            y1: _,
-            t: _,
-            x2: _,
-            y2: _,
-        } => Line::Other,
-        Command::Start { name: _ } => Line::Other,
-        Command::Recall { name: _ } => Line::Other,
-        Command::Delete { name: _ } => Line::Other,
-        Command::Print { sets: _, copies: _ } => Line::Other,
-        Command::Refused { why: _ } => Line::Other,
+    let Number::Value { n, next: a } = two_digits_part(s, 1) else {
+        return Line::Other;
+    };
+    let Number::Value { n: len, next: _ } = number_part(s, a) else {
+        return Line::Other;
+    };
+    Line::Definition {
+        define: Define::Variable { n, len },
     }
+}
+
+// The definition of a counter; its prompt is passed over.
+fn counter_in(s: &[u8]) -> Line
+    ensures { λ r. ⌜ ((n len letter : ℕ) (by : P.Step) (prompt : List ℕ) → now (s .entry) ≡ lineText (P.define (P.counting n len letter by prompt)) → inRange width (P.keep (P.define (P.counting n len letter by prompt))) ≡ true → r ≡ lineOf (P.define (P.counting n len letter by prompt))) ⌝ }
+{
+    let Number::Value { n, next: a } = digit_part(s, 1) else {
+        return Line::Other;
+    };
+    let Number::Value { n: len, next: b } = number_part(s, a) else {
+        return Line::Other;
+    };
+    let Number::Value { n: _, next: c } = letter_part(s, b) else {
+        return Line::Other;
+    };
+    let StepRead::Value { step, next: _ } = step_part(s, c) else {
+        return Line::Other;
+    };
+    Line::Definition {
+        define: Define::Counter { n, len, step },
+    }
+}
+
+// A line of a form, as a definition or not: its first byte tells which.
+pub fn line_in(s: &[u8]) -> Line
+    ensures { λ r. ⌜ ((l : P.FormLine) → now (s .entry) ≡ lineText l → inRange width (P.keep l) ≡ true → r ≡ lineOf l) ⌝ }
+{
+    let b = byte_at(s, 0);
+    if b == 67 {
+        return counter_in(s);
+    }
+    if b == 86 {
+        return variable_in(s);
+    }
+    Line::Other
 }
 
 // The next definition, and the place behind its line; or that none is left.
@@ -86,9 +100,9 @@ pub fn next_asked(text: &[u8], start: usize) -> Next
     let mut at = start;
     while at < text.len() {
         let end = line_end(text, at);
-        let c = read_line(&text[at..end]);
+        let line = line_in(&text[at..end]);
         at = end + 1;
-        let Line::Definition { define } = line_of(c) else {
+        let Line::Definition { define } = line else {
             continue;
         };
         return Next::Asked { define, next: at };

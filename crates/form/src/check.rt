@@ -111,7 +111,7 @@ fn check_define(k: usize, lens: [usize; 26], slot: usize, len: usize) -> Checked
     }
 }
 
-// A line with k lines above it.
+// A line with k lines above it. A bar or a frame goes anywhere below the first two; no other record is one of a form.
 fn check_line(k: usize, lens: [usize; 26], c: Command) -> Checked
     ensures { λ r. ⌜ ((s : List ℕ) (l : P.FormLine) (above : List P.Define) → viewOf s c ≡ command (P.keep l) → Stand s c → inRange width (P.keep l) ≡ true → Agrees lens above → Judges k above l r) ⌝ }
 {
@@ -135,26 +135,7 @@ fn check_line(k: usize, lens: [usize; 26], c: Command) -> Checked
             prompt: _,
         } => check_define(k, lens, slot_of(0, 9, n), len),
         Command::Varying { n, len, prompt: _ } => check_define(k, lens, slot_of(10, 15, n), len),
-        Command::Black { bar: _ } => Checked { sound: 1 < k, lens },
-        Command::Flip { bar: _ } => Checked { sound: 1 < k, lens },
-        Command::White { bar: _ } => Checked { sound: 1 < k, lens },
-        Command::Frame {
-            x1: _,
-            y1: _,
-            t: _,
-            x2: _,
-            y2: _,
-        } => Checked { sound: 1 < k, lens },
-        Command::Empty => Checked { sound: false, lens },
-        Command::New => Checked { sound: false, lens },
-        Command::Finish => Checked { sound: false, lens },
-        Command::Inform => Checked { sound: false, lens },
-        Command::Ask => Checked { sound: false, lens },
-        Command::Start { name: _ } => Checked { sound: false, lens },
-        Command::Recall { name: _ } => Checked { sound: false, lens },
-        Command::Delete { name: _ } => Checked { sound: false, lens },
-        Command::Print { sets: _, copies: _ } => Checked { sound: false, lens },
-        Command::Refused { why: _ } => Checked { sound: false, lens },
+        _ => Checked { sound: 1 < k, lens },
     }
 }
 

@@ -1,7 +1,7 @@
 -- The ranges of the table as the code tests them: each test that a branch took or left is known, and so the whole is.
 use Prim.Native.Nat.{ℕ, _+_, _-_, _≤_, _<_}
 use mathlib.Core.Path.{_≡_, refl, sym, _∙_}
-use mathlib.Core.Bool.{Bool, true, false, _&&_, _||_, and-true, and-false, and-assoc, or-true, or-false}
+use mathlib.Core.Bool.{Bool, true, false, _&&_, _||_, and-true, and-false, or-true, or-false}
 use mathlib.Core.List.{List, [], _∷_, _++_}
 use native.Mathlib.Omega.{arith}
 use lib.ListN.{length, drop}
@@ -11,6 +11,7 @@ use Rattle.paper.specs.Byte.{between, every}
 use Rattle.paper.specs.Command.{Setting, isShown, texts, valueRange, contentRanges, settingRanges, drawRanges, ranges, inRange, all, allOf}
 use Rattle.paper.specs.Command as P
 use Rattle.paper.proofs.Test.{agree}
+use Rattle.paper.proofs.Filled.{allOf-append}
 use Rattle.line.specs.View.{width, textIn, contentOf, ContentShown}
 use Rattle.line.specs.declared.command.Content.{Content}
 use Rattle.line.specs.declared.command.Content.the-variants as C
@@ -53,12 +54,6 @@ content-judged s (C.Counter n) h = simp and-true
 content-judged s (C.Variable n) h = simp and-true
 content-judged s (C.TextCounter string n) h = rw (shown-judged 100 (textIn s string) (string .len) (h .counted) (h .shown)) (simp and-true)
 content-judged s (C.TextVariable string n) h = rw (shown-judged 100 (textIn s string) (string .len) (h .counted) (h .shown)) (simp and-true)
-
--- tests of two lists put together
-allOf-append : (ps qs : List (List Bool)) → allOf (ps ++ qs) ≡ (allOf ps && allOf qs)
-unfolding allOf
-allOf-append [] qs = refl
-allOf-append (p ∷ ps) qs = rw (allOf-append ps qs) (sym (and-assoc (all p) (allOf ps) (allOf qs)))
 
 -- a text is in its ranges if its parameters and its content are
 pub put-ranges : (t : Setting) (c : P.Content) → inRange width (P.keep (P.draw (P.put t c))) ≡ (allOf (settingRanges width t) && allOf (contentRanges c))

@@ -99,7 +99,7 @@ filled-range above values (joined s v) serves h p =
     }
 
 -- tests of two lists of lists
-allOf-append : (ps qs : List (List Bool)) → allOf (ps ++ qs) ≡ (allOf ps && allOf qs)
+pub allOf-append : (ps qs : List (List Bool)) → allOf (ps ++ qs) ≡ (allOf ps && allOf qs)
 unfolding allOf
 allOf-append [] qs = refl
 allOf-append (p ∷ ps) qs = rw (allOf-append ps qs) (sym (and-assoc (all p) (allOf ps) (allOf qs)))

@@ -34,7 +34,7 @@ in-more width (k ∷ ls) l e h =
     and-both first _ (and-left first _ e) (in-more width ls l (and-right first _ e) h)
 
 -- answers that fit the first definitions, and one more that fits the next
-fitting-more : (ds : List Define) (given : List (List ℕ)) (d : Define) (rest : List Define) (a : List ℕ) → drop (length given) ds ≡ d ∷ rest → fitting (take (length given) ds) given ≡ true → fits d a ≡ true → (fitting (take (length (given ++ (a ∷ []))) ds) (given ++ (a ∷ [])) ≡ true) × (length ds ≡ length (given ++ (a ∷ [])) + length rest)
+pub fitting-more : (ds : List Define) (given : List (List ℕ)) (d : Define) (rest : List Define) (a : List ℕ) → drop (length given) ds ≡ d ∷ rest → fitting (take (length given) ds) given ≡ true → fits d a ≡ true → (fitting (take (length (given ++ (a ∷ []))) ds) (given ++ (a ∷ [])) ≡ true) × (length ds ≡ length (given ++ (a ∷ [])) + length rest)
 unfolding fitting
 fitting-more [] [] d rest a e f h = (cc, cc)
 fitting-more [] (x ∷ xs) d rest a e f h = (f, cc)
@@ -54,7 +54,7 @@ used-more [] name ls = omega arith
 used-more (f ∷ fs) name ls = let rest = used-more fs name ls in omega arith
 
 -- the ranges of `P`
-print-in : (width n c : ℕ) → inRange width (print n c) ≡ true → (1 ≤ n) × (n ≤ 65535) × (1 ≤ c) × (c ≤ 65535)
+pub print-in : (width n c : ℕ) → inRange width (print n c) ≡ true → (1 ≤ n) × (n ≤ 65535) × (1 ≤ c) × (c ≤ 65535)
 unfolding inRange ranges
 print-in width n c e =
     let each = held _ e in
@@ -65,8 +65,8 @@ start-in : (width : ℕ) (name : List ℕ) → inRange width (file (start name))
 unfolding inRange ranges filingRanges
 start-in width name e = held ((isName name ∷ []) ∷ []) e .0 .0
 
--- what is no form is none
-not-some : {A : Type 0} (o : Option A) → isSome o ≡ false → o ≡ none
+-- what is not there is none
+pub not-some : {A : Type 0} (o : Option A) → isSome o ≡ false → o ≡ none
 unfolding isSome
 not-some none e = refl
 not-some (some a) e = clash refl e

@@ -13,22 +13,20 @@ use Rattle.paper.specs.Line.{isDigit}
 use Rattle.paper.specs.Command as P
 use Rattle.paper.specs.Command.{defineRanges, stepRange, allOf}
 use Rattle.paper.specs.Form.{asked}
-use Rattle.paper.specs.Read.{command}
 use Rattle.paper.specs.Set.{amount, holds, holdsTo, allHold, fits}
 use Rattle.paper.proofs.Law.{and-left, and-right}
 use Rattle.paper.proofs.Test.{Passed, held}
 use Rattle.text.specs.Place.{from}
-use Rattle.line.specs.View.{viewOf, stepOf}
-use Rattle.line.specs.Given.{IsRead}
-use Rattle.line.specs.declared.command.Command.{Command}
+use Rattle.line.specs.View.{stepOf}
 use Rattle.line.specs.declared.command.Step.{Step}
 use Rattle.form.specs.Walk.{firstLine}
-use Rattle.form.specs.Asked.{defineOf, lineOf, stepIn}
+use Rattle.form.specs.Asked.{defineOf, stepIn}
 use Rattle.form.specs.declared.asked.Define.{Define}
 use Rattle.form.specs.declared.asked.Define.the-variants.{Counter, Variable}
 use Rattle.form.specs.declared.asked.Line.{Line}
 use Rattle.form.specs.declared.asked.Line.the-variants.{Definition, Other}
 use Rattle.form.proofs.Lines.{Inside, lineAt, lines-end}
+use Rattle.form.proofs.Wanted.{Told}
 use Rattle.set.specs.Count.{sizeOf}
 use Rattle.set.specs.Fill.{partOf}
 use Rattle.set.specs.Taking.{Answered, Fits}
@@ -144,8 +142,8 @@ holds-end text answers last at given h p t =
     let l = h .holding t in
     sym (l .decides ∙ rw (lines-end text at (l .left) (l .walk .here) p))
 
-module _ (text answers : List ℕ) (last at given end : ℕ) (c : Command) (line : Line) (h : Holding text answers last at given) (p : at < length text) (e : end ≡ at + length (firstLine (from text at)))
-    (r : IsRead (lineAt text at end) c) (told : (s : List ℕ) (l : P.FormLine) → viewOf s c ≡ command (P.keep l) → line ≡ lineOf l) where
+module _ (text answers : List ℕ) (last at given end : ℕ) (line : Line) (h : Holding text answers last at given) (p : at < length text) (e : end ≡ at + length (firstLine (from text at)))
+    (told : Told (lineAt text at end) line) where
   -- a line that draws decides nothing
   pub holds-draws : line ≡ Other → Holding text answers last (end + 1) given
   unfolding asked
@@ -153,13 +151,13 @@ module _ (text answers : List ℕ) (last at given end : ℕ) (c : Command) (line
     where
       go : (t : Answered text answers) → Deciding text answers last t at given → Deciding text answers last t (end + 1) given
       go t l =
-          let d = walk-draws text answers at given end c line (l .left) (l .later) (l .walk) p e r told is in
+          let d = walk-draws text answers at given end line (l .left) (l .later) (l .walk) p e told is in
           record { left = d .more; later = l .later; walk = d .next; decides = l .decides ∙ ap (λ x. allHold last (asked x) (l .later)) (d .is) }
 
   module _ (define : Define) (close : ℕ) (is : line ≡ Definition define) (q : close ≡ given + length (firstLine (from answers given))) where
     -- a definition that is met, for a form and answers of these bytes
     asking : (t : Answered text answers) → Asks text answers at given end close define (h .holding t .left) (h .holding t .later)
-    asking t = let l = h .holding t in walk-asks text answers at given end c line (l .left) (l .later) (l .walk) p e r told define close is q
+    asking t = let l = h .holding t in walk-asks text answers at given end line (l .left) (l .later) (l .walk) p e told define close is q
 
     -- its answer stands in the answers
     pub holds-inside : Answered text answers → Inside answers given close

@@ -1,17 +1,17 @@
 -- A set line by line: the lines that are left are still to be written, and all that the lines above define is told.
 use mathlib.Core.Path.{_≡_, refl, sym, _∙_, ap}
-use mathlib.Core.Bool.{Bool, true, not, false≢true}
+use mathlib.Core.Bool.{Bool, true, false≢true}
 use mathlib.Core.List.{List, [], _∷_, _++_, append-assoc, append-nil}
-use mathlib.Core.Option.{Option, none, some}
+use mathlib.Core.Option.{none}
 use Prim.Native.Nat.{ℕ, suc, _+_, _≤_, _<_}
 use native.Mathlib.Omega.{arith}
 use lib.ListN.{length}
+use borrow.Author.Tests.{not-true}
 use Rattle.paper.specs.Byte.{bytes, decimal}
 use Rattle.paper.specs.Line.{lf}
 use Rattle.paper.specs.Command as P
 use Rattle.paper.specs.Command.{all, inRange, ranges}
-use Rattle.paper.specs.Form.{asked, defined, valueOf, isSome, contentSound, drawSound, valueSound, firstBroken, unsoundAt}
-use Rattle.paper.specs.Read.{command}
+use Rattle.paper.specs.Form.{asked, defined, valueOf, contentSound, drawSound, valueSound, firstBroken, unsoundAt}
 use Rattle.paper.specs.Set.{fits, valueIn, filled, placed, drawn, setLines, setOf}
 use Rattle.paper.specs.State.{fitting}
 use Rattle.paper.specs.Write.{commas, lineText, normal, linesText}
@@ -19,23 +19,22 @@ use Rattle.paper.proofs.Law.{and-left, and-right}
 use Rattle.paper.proofs.Test.{Passed}
 use Rattle.paper.proofs.Number.{decimal-small}
 use Rattle.paper.proofs.Filled.{broken-cons}
+use Rattle.paper.proofs.Invariant.{not-some}
 use Rattle.paper.proofs.SetOf.{set-room}
 use Rattle.text.specs.Place.{from}
 use Rattle.text.specs.Write.{Writes}
 use Rattle.text.proofs.Written.{Writing, writing-begins, writing-turns, writing-room, writing-ends, writes-then}
-use Rattle.line.specs.View.{width, viewOf}
-use Rattle.line.specs.Given.{IsRead}
-use Rattle.line.specs.declared.command.Command.{Command}
+use Rattle.line.specs.View.{width}
 use Rattle.form.specs.Walk.{firstLine}
-use Rattle.form.specs.Asked.{lineOf}
 use Rattle.form.specs.declared.asked.Define.{Define}
 use Rattle.form.specs.declared.asked.Line.{Line}
 use Rattle.form.specs.declared.asked.Line.the-variants.{Definition, Other}
 use Rattle.form.proofs.Lines.{lineAt, lines-end}
+use Rattle.form.proofs.Wanted as W
 use Rattle.set.specs.Fill.{partOf}
 use Rattle.set.specs.Told.{Told}
 use Rattle.set.specs.Taking.{Taking, Fits, Tells}
-use Rattle.set.specs.Showing.{shownLine, Drawing, lineShown}
+use Rattle.set.specs.Showing.{shownLine, Drawing, drawingShown, lineShown}
 use Rattle.set.specs.declared.values.Values.{Values}
 use Rattle.set.proofs.Telling.{Paired, value-more, told-begins}
 use Rattle.set.proofs.Giving.{fitting-paired}
@@ -73,19 +72,13 @@ rest-draws : (values : P.Value → List ℕ) (d : P.Draw) (more : List P.FormLin
 unfolding drawn linesText normal shownLine
 rest-draws values d more copies = sym (append-assoc (lineText (P.draw (placed values d))) (lf ∷ []) _)
 
--- nothing is there
-none-there : (o : Option P.Define) → not (isSome o) ≡ true → o ≡ none
-unfolding isSome
-none-there none e = refl
-none-there (some d) e = absurd (false≢true e)
-
 -- an answer more that fits a definition more
-fitting-more : (ds : List P.Define) (given : List (List ℕ)) (d : P.Define) (a : List ℕ) → fitting ds given ≡ true → fits d a ≡ true → fitting (ds ++ (d ∷ [])) (given ++ (a ∷ [])) ≡ true
+fitting-append : (ds : List P.Define) (given : List (List ℕ)) (d : P.Define) (a : List ℕ) → fitting ds given ≡ true → fits d a ≡ true → fitting (ds ++ (d ∷ [])) (given ++ (a ∷ [])) ≡ true
 unfolding fitting
-fitting-more [] [] d a e f = rw f
-fitting-more [] (b ∷ given) d a e f = absurd (false≢true e)
-fitting-more (x ∷ ds) [] d a e f = absurd (false≢true e)
-fitting-more (x ∷ ds) (b ∷ given) d a e f = rw (and-left (fits x b) _ e) (fitting-more ds given d a (and-right (fits x b) _ e) f)
+fitting-append [] [] d a e f = rw f
+fitting-append [] (b ∷ given) d a e f = absurd (false≢true e)
+fitting-append (x ∷ ds) [] d a e f = absurd (false≢true e)
+fitting-append (x ∷ ds) (b ∷ given) d a e f = rw (and-left (fits x b) _ e) (fitting-append ds given d a (and-right (fits x b) _ e) f)
 
 -- a set in the making: behind `N`, from a place of the buffer on, the lines are written
 pub record Making (text answers : List ℕ) (copies i : ℕ) (t : Taking text answers copies i) (old : List ℕ) (place : ℕ) (v : Values) (new : List ℕ) (next at given : ℕ) : Type 0 where
@@ -137,8 +130,8 @@ putting-begins text answers copies i first v old place h w = record { putting = 
           writing = writing-begins old place _ (writing-room first 0 _ _ old place (restOf (valueIn (asked (f .lines)) (f .given) i) (f .lines) copies) [] rest (sym (append-nil _)));
         }
 
-module _ (text answers : List ℕ) (copies i : ℕ) (t : Taking text answers copies i) (old : List ℕ) (place : ℕ) (v : Values) (new : List ℕ) (next at given end : ℕ) (c : Command)
-    (m : Making text answers copies i t old place v new next at given) (d : Draws text answers at given end c (m .left) (m .later)) where
+module _ (text answers : List ℕ) (copies i : ℕ) (t : Taking text answers copies i) (old : List ℕ) (place : ℕ) (v : Values) (new : List ℕ) (next at given end : ℕ)
+    (m : Making text answers copies i t old place v new next at given) (d : Draws text answers at given end (m .left) (m .later)) where
   -- the next line is sound below the definitions above it
   sound-next : Passed (drawSound (m .above) (d .draw)) × (firstBroken (suc (m .lines)) (m .above) (d .more) ≡ none)
   unfolding valueSound asked
@@ -148,7 +141,7 @@ module _ (text answers : List ℕ) (copies i : ℕ) (t : Taking text answers cop
       (all-three .1, rw append-nil at (all-three .2))
 
   -- and is a line to be drawn
-  pub making-draws : Drawing (lineAt text at end) c v answers
+  pub making-draws : Drawing (lineAt text at end) v answers
   unfolding inRange ranges
   making-draws =
       record {
@@ -157,7 +150,6 @@ module _ (text answers : List ℕ) (copies i : ℕ) (t : Taking text answers cop
         before = m .before;
         number = i;
         is = d .line;
-        view = rw (d .line) (d .view);
         range = d .range;
         told = m .told;
         sound = passed-all _ (sound-next .0);
@@ -165,8 +157,8 @@ module _ (text answers : List ℕ) (copies i : ℕ) (t : Taking text answers cop
 
   -- what it becomes is the next of the set
   making-next : restOf (valueIn (asked (t .form .lines)) (t .form .given) i) (m .left) copies
-      ≡ lineShown (lineAt text at end) c v answers making-draws ++ restOf (valueIn (asked (t .form .lines)) (t .form .given) i) (d .more) copies
-  unfolding lineShown making-draws shownLine
+      ≡ lineShown (lineAt text at end) v answers making-draws ++ restOf (valueIn (asked (t .form .lines)) (t .form .given) i) (d .more) copies
+  unfolding lineShown drawingShown making-draws shownLine
   making-next =
       ap (λ x. restOf (valueIn (asked (t .form .lines)) (t .form .given) i) x copies) (d .is)
       ∙ rest-draws _ (d .draw) (d .more) copies
@@ -174,13 +166,13 @@ module _ (text answers : List ℕ) (copies i : ℕ) (t : Taking text answers cop
       (placed-whole (asked (t .form .lines)) (m .above) (asked (m .left)) (t .form .given) (m .before) (m .later) i (d .draw) (m .defines) (m .answered) (fitting-paired (m .above) (m .before) (m .fit)) (sound-next .0))
 
   -- there is room for it
-  pub making-room : next + length (lineShown (lineAt text at end) c v answers making-draws) ≤ length new
+  pub making-room : next + length (lineShown (lineAt text at end) v answers making-draws) ≤ length new
   making-room =
-      writing-room old place _ _ new next (lineShown (lineAt text at end) c v answers making-draws) (restOf (valueIn (asked (t .form .lines)) (t .form .given) i) (d .more) copies) (m .writing)
+      writing-room old place _ _ new next (lineShown (lineAt text at end) v answers making-draws) (restOf (valueIn (asked (t .form .lines)) (t .form .given) i) (d .more) copies) (m .writing)
       making-next
 
   -- and with it the set goes on
-  pub making-goes : (newer : List ℕ) (after : ℕ) → Writes new next (lineShown (lineAt text at end) c v answers making-draws) newer after
+  pub making-goes : (newer : List ℕ) (after : ℕ) → Writes new next (lineShown (lineAt text at end) v answers making-draws) newer after
       → Making text answers copies i t old place v newer after (end + 1) given
   unfolding asked
   making-goes newer after w =
@@ -196,7 +188,7 @@ module _ (text answers : List ℕ) (copies i : ℕ) (t : Taking text answers cop
         fit = m .fit;
         told = m .told;
         sound = sound-next .1;
-        writing = writing-turns old place _ _ new next (lineShown (lineAt text at end) c v answers making-draws) _ newer after (m .writing) making-next w;
+        writing = writing-turns old place _ _ new next (lineShown (lineAt text at end) v answers making-draws) _ newer after (m .writing) making-next w;
       }
 
 module _ (text answers : List ℕ) (copies i : ℕ) (t : Taking text answers copies i) (old : List ℕ) (place : ℕ) (v : Values) (new : List ℕ) (next at given end close : ℕ) (define : Define)
@@ -207,7 +199,7 @@ module _ (text answers : List ℕ) (copies i : ℕ) (t : Taking text answers cop
   new-next =
       let below : firstBroken (m .lines) (m .above) (P.define (a .fits .asks) ∷ a .more) ≡ none = rw (a .is) at (m .sound) in
       let all-three = broken-cons (m .lines) (m .above) (P.define (a .fits .asks)) (a .more) below in
-      (none-there (defined (valueOf (a .fits .asks)) (m .above)) (all-three .1 .0), all-three .2)
+      (not-some (defined (valueOf (a .fits .asks)) (m .above)) (not-true _ (all-three .1 .0)), all-three .2)
 
   -- with its value told the set goes on
   pub making-tells : (r : Values) → Tells v answers (a .fits .asks) (partOf answers given close) i r → Making text answers copies i t old place r new next (end + 1) (close + 1)
@@ -222,37 +214,37 @@ module _ (text answers : List ℕ) (copies i : ℕ) (t : Taking text answers cop
         walk = a .next;
         defines = m .defines ∙ ap (λ x. m .above ++ asked x) (a .is) ∙ sym (append-assoc (m .above) (a .fits .asks ∷ []) (asked (a .more)));
         answered = m .answered ∙ ap (λ x. m .before ++ x) (a .answer) ∙ sym (append-assoc (m .before) (partOf answers given close ∷ []) (a .behind));
-        fit = fitting-more (m .above) (m .before) (a .fits .asks) (partOf answers given close) (m .fit) (a .fits .fit);
+        fit = fitting-append (m .above) (m .before) (a .fits .asks) (partOf answers given close) (m .fit) (a .fits .fit);
         told = tells .tells (m .above) (m .before) (m .told) (m .fit) (new-next .0);
         sound = new-next .1;
         writing = rw (a .is) at (m .writing);
       }
 
-module _ (text answers : List ℕ) (copies i : ℕ) (old : List ℕ) (place : ℕ) (v : Values) (new : List ℕ) (next at given end : ℕ) (c : Command) (line : Line) (h : Putting text answers copies i old place v new next at given) (p : at < length text)
-    (e : end ≡ at + length (firstLine (from text at))) (r : IsRead (lineAt text at end) c) (told : (s : List ℕ) (l : P.FormLine) → viewOf s c ≡ command (P.keep l) → line ≡ lineOf l) where
+module _ (text answers : List ℕ) (copies i : ℕ) (old : List ℕ) (place : ℕ) (v : Values) (new : List ℕ) (next at given end : ℕ) (line : Line) (h : Putting text answers copies i old place v new next at given) (p : at < length text)
+    (e : end ≡ at + length (firstLine (from text at))) (told : W.Told (lineAt text at end) line) where
   module _ (is : line ≡ Other) where
     -- a line that draws is met, for a set of these bytes
-    drawing : (t : Taking text answers copies i) → Draws text answers at given end c (h .putting t .left) (h .putting t .later)
-    drawing t = let m = h .putting t in walk-draws text answers at given end c line (m .left) (m .later) (m .walk) p e r told is
+    drawing : (t : Taking text answers copies i) → Draws text answers at given end (h .putting t .left) (h .putting t .later)
+    drawing t = let m = h .putting t in walk-draws text answers at given end line (m .left) (m .later) (m .walk) p e told is
 
     -- it is drawn, and there is room for it
-    pub putting-draws : Taking text answers copies i → (t : Drawing (lineAt text at end) c v answers) × (next + length (lineShown (lineAt text at end) c v answers t) ≤ length new)
+    pub putting-draws : Taking text answers copies i → (t : Drawing (lineAt text at end) v answers) × (next + length (lineShown (lineAt text at end) v answers t) ≤ length new)
     putting-draws t =
-        (making-draws text answers copies i t old place v new next at given end c (h .putting t) (drawing t), making-room text answers copies i t old place v new next at given end c (h .putting t) (drawing t))
+        (making-draws text answers copies i t old place v new next at given end (h .putting t) (drawing t), making-room text answers copies i t old place v new next at given end (h .putting t) (drawing t))
 
     -- and with it the set goes on
-    pub putting-goes : (newer : List ℕ) (after : ℕ) → ((t : Drawing (lineAt text at end) c v answers) → Writes new next (lineShown (lineAt text at end) c v answers t) newer after)
+    pub putting-goes : (newer : List ℕ) (after : ℕ) → ((t : Drawing (lineAt text at end) v answers) → Writes new next (lineShown (lineAt text at end) v answers t) newer after)
         → Putting text answers copies i old place v newer after (end + 1) given
     putting-goes newer after w =
         record {
-          putting = λ t. making-goes text answers copies i t old place v new next at given end c (h .putting t) (drawing t) newer after
-              (w (making-draws text answers copies i t old place v new next at given end c (h .putting t) (drawing t)));
+          putting = λ t. making-goes text answers copies i t old place v new next at given end (h .putting t) (drawing t) newer after
+              (w (making-draws text answers copies i t old place v new next at given end (h .putting t) (drawing t)));
         }
 
   module _ (define : Define) (close : ℕ) (is : line ≡ Definition define) (q : close ≡ given + length (firstLine (from answers given))) where
     -- a definition is met, for a set of these bytes
     asking : (t : Taking text answers copies i) → Asks text answers at given end close define (h .putting t .left) (h .putting t .later)
-    asking t = let m = h .putting t in walk-asks text answers at given end c line (m .left) (m .later) (m .walk) p e r told define close is q
+    asking t = let m = h .putting t in walk-asks text answers at given end line (m .left) (m .later) (m .walk) p e told define close is q
 
     -- its answer stands in the answers
     pub answer-begins : Taking text answers copies i → given ≤ close

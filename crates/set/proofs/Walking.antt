@@ -13,22 +13,20 @@ use Rattle.paper.specs.Line.{lf, isDigit}
 use Rattle.paper.specs.Command as P
 use Rattle.paper.specs.Command.{isShown, inRange, ranges, allOf, defineRanges}
 use Rattle.paper.specs.Form.{textOf, asked}
-use Rattle.paper.specs.Read.{command}
 use Rattle.paper.specs.Set.{fits}
 use Rattle.paper.specs.State.{allIn, fitting}
 use Rattle.paper.specs.Write.{lineText, normal, linesText}
 use Rattle.paper.proofs.Law.{if-true, if-false, and-left, and-right}
 use Rattle.paper.proofs.Test.{either, clash}
 use Rattle.text.specs.Place.{from}
-use Rattle.line.specs.View.{width, viewOf, Stand}
-use Rattle.line.specs.Given.{IsRead}
-use Rattle.line.specs.declared.command.Command.{Command}
+use Rattle.line.specs.View.{width}
 use Rattle.form.specs.Walk.{firstLine}
 use Rattle.form.specs.Asked.{defineOf, lineOf}
 use Rattle.form.specs.declared.asked.Define.{Define}
 use Rattle.form.specs.declared.asked.Line.{Line}
 use Rattle.form.specs.declared.asked.Line.the-variants.{Definition, Other}
 use Rattle.form.proofs.Lines.{Turn, line-turn, lineAt}
+use Rattle.form.proofs.Wanted.{Told}
 use Rattle.set.specs.Fill.{partOf}
 use Rattle.set.specs.Taking.{answersText, Fits}
 
@@ -78,13 +76,11 @@ pub record Walk (text answers : List ℕ) (at given : ℕ) (left : List P.FormLi
   pub fit : fitting (asked left) later ≡ true
 
 -- the next line draws
-pub record Draws (text answers : List ℕ) (at given end : ℕ) (c : Command) (left : List P.FormLine) (later : List (List ℕ)) : Type 0 where
+pub record Draws (text answers : List ℕ) (at given end : ℕ) (left : List P.FormLine) (later : List (List ℕ)) : Type 0 where
   pub draw : P.Draw
   pub more : List P.FormLine
   pub is : left ≡ P.draw draw ∷ more
   pub line : lineAt text at end ≡ lineText (P.draw draw)
-  pub view : viewOf (lineText (P.draw draw)) c ≡ command (P.keep (P.draw draw))
-  pub stand : Stand (lineText (P.draw draw)) c
   pub range : inRange width (P.keep (P.draw draw)) ≡ true
   pub next : Walk text answers (end + 1) given more later
 
@@ -134,41 +130,35 @@ define-range : (d : P.Define) → inRange width (P.keep (P.define d)) ≡ true �
 unfolding inRange ranges
 define-range d e = e
 
-module _ (text answers : List ℕ) (at given end : ℕ) (c : Command) (line : Line) (left : List P.FormLine) (later : List (List ℕ)) (w : Walk text answers at given left later) (h : at < length text)
-    (e : end ≡ at + length (firstLine (from text at))) (r : IsRead (lineAt text at end) c) (told : (s : List ℕ) (l : P.FormLine) → viewOf s c ≡ command (P.keep l) → line ≡ lineOf l) where
-  -- the line that is read
-  turn : Turn text at left end c
-  turn = line-turn text at left end c (w .here) (w .inside) h e r
+module _ (text answers : List ℕ) (at given end : ℕ) (line : Line) (left : List P.FormLine) (later : List (List ℕ)) (w : Walk text answers at given left later) (h : at < length text)
+    (e : end ≡ at + length (firstLine (from text at))) (told : Told (lineAt text at end) line) where
+  -- the line that stands there
+  turn : Turn text at left end
+  turn = line-turn text at left end (w .here) (w .inside) h e
 
-  -- it stands there
-  stands : lineAt text at end ≡ lineText (turn .line)
-  unfolding lineAt from textOf linesText normal
-  stands =
-      let all : drop at text ≡ textOf (turn .line ∷ turn .more) = w .here ∙ ap textOf (turn .is) in
-      rw all (take-at (lineText (turn .line)) _ (end - at) (omega (arith, turn .place)))
+  -- it is told as what it is
+  is-told : (o : Line) → line ≡ o → lineOf (turn .line) ≡ o
+  is-told o is = sym (told (turn .line) (turn .stands) (turn .range)) ∙ is
 
   -- a line that draws
-  pub walk-draws : line ≡ Other → Draws text answers at given end c left later
-  walk-draws is = go (turn .line) (turn .is) stands (turn .view) (turn .stand) (turn .range) (sym (told (lineText (turn .line)) (turn .line) (turn .view)) ∙ is)
+  pub walk-draws : line ≡ Other → Draws text answers at given end left later
+  walk-draws is = go (turn .line) (turn .is) (turn .stands) (turn .range) (is-told Other is)
     where
-      go : (l : P.FormLine) → left ≡ l ∷ turn .more → lineAt text at end ≡ lineText l → viewOf (lineText l) c ≡ command (P.keep l) → Stand (lineText l) c → inRange width (P.keep l) ≡ true
-          → lineOf l ≡ Other → Draws text answers at given end c left later
-      go (P.draw d) f s v t i o =
+      go : (l : P.FormLine) → left ≡ l ∷ turn .more → lineAt text at end ≡ lineText l → inRange width (P.keep l) ≡ true → lineOf l ≡ Other → Draws text answers at given end left later
+      go (P.draw d) f s i o =
           record {
             draw = d;
             more = turn .more;
             is = f;
             line = s;
-            view = v;
-            stand = t;
             range = i;
             next = record { here = turn .after; inside = turn .below; there = w .there; fit = draws-fit d (turn .more) later (rw f at (w .fit)) };
           }
-      go (P.define d) f s v t i o = other-clash d o
+      go (P.define d) f s i o = other-clash d o
 
   -- a line that defines
   pub walk-asks : (define : Define) (close : ℕ) → line ≡ Definition define → close ≡ given + length (firstLine (from answers given)) → Asks text answers at given end close define left later
-  walk-asks define close is p = go (turn .line) later (turn .is) (turn .range) (sym (told (lineText (turn .line)) (turn .line) (turn .view)) ∙ is) (w .there) (rw (turn .is) at (w .fit))
+  walk-asks define close is p = go (turn .line) later (turn .is) (turn .range) (is-told (Definition define) is) (w .there) (rw (turn .is) at (w .fit))
     where
       go : (l : P.FormLine) (others : List (List ℕ)) → left ≡ l ∷ turn .more → inRange width (P.keep l) ≡ true → lineOf l ≡ Definition define → from answers given ≡ answersText others
           → fitting (asked (l ∷ turn .more)) others ≡ true → Asks text answers at given end close define left others

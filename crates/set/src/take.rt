@@ -6,21 +6,20 @@ ghost use Rattle.paper.specs.Form.{asked};
 ghost use Rattle.paper.specs.Set.{holdsTo, allHold, setOf};
 ghost use Rattle.text.specs.Write.{Writes};
 ghost use Rattle.set.specs.Fill.{partOf};
-ghost use Rattle.set.specs.Showing.{Showing, Drawing, textShown, lineShown};
+ghost use Rattle.set.specs.Showing.{Drawing, drawingShown, lineShown};
 ghost use Rattle.set.specs.Taking.{Answered, Taking, Fits, Tells};
 use crate::count::amount;
 use crate::count::holds;
 use crate::count::value_at;
+use crate::ending::Ending;
+use crate::ending::ending_of;
 use crate::fill::put_counter;
 use crate::fill::put_variable;
 use crate::values::Values;
 use form::asked::Define;
 use form::asked::Line;
-use form::asked::line_of;
+use form::asked::line_in;
 use form::walk::line_end;
-use line::command::Command;
-use line::command::Content;
-use line::read::read_line;
 use text::write::put;
 use text::write::put_all;
 use text::write::put_decimal;
@@ -47,9 +46,9 @@ pub fn all_hold(text: &[u8], answers: &[u8], last: usize) -> bool
     let mut given = 0;
     while at < text.len() {
         let end = line_end(text, at);
-        let c = read_line(&text[at..end]);
+        let line = line_in(&text[at..end]);
         at = end + 1;
-        let Line::Definition { define } = line_of(c) else {
+        let Line::Definition { define } = line else {
             continue;
         };
         let close = line_end(answers, given);
@@ -84,29 +83,20 @@ fn with_value(
     }
 }
 
-// A text line with its value in place.
-fn put_text<'a>(
-    out: &mut [u8],
-    at: usize,
-    line: &'a [u8],
-    content: Content,
-    v: Values,
-    answers: &'a [u8],
-) -> usize
-    requires { ⌜ ((t : Showing (now line) content v (now answers)) × (at + length (textShown (now line) content v (now answers) t) ≤ length (now out))) ⌝ }
-    ensures { λ r. ⌜ ((t : Showing (now (line .entry)) content v (now (answers .entry))) → Writes (now (out .entry)) at (textShown (now (line .entry)) content v (now (answers .entry)) t) (now (out .exit)) r) ⌝ }
+// A line of the form that draws, with its value in place.
+fn put_drawn<'a>(out: &mut [u8], at: usize, line: &'a [u8], v: Values, answers: &'a [u8]) -> usize
+    requires { ⌜ ((t : Drawing (now line) v (now answers)) × (at + length (drawingShown (now line) v (now answers) t) ≤ length (now out))) ⌝ }
+    ensures { λ r. ⌜ ((t : Drawing (now (line .entry)) v (now (answers .entry))) → Writes (now (out .entry)) at (drawingShown (now (line .entry)) v (now (answers .entry)) t) (now (out .exit)) r) ⌝ }
 {
-    match content {
-        Content::Text { string: _ } => put_all(out, at, line),
-        Content::Counter { n } => put_counter(out, at, line, 2, true, v, n),
-        Content::Variable { n } => put_variable(out, at, line, 3, true, v, n, answers),
-        Content::TextCounter { string: _, n } => put_counter(out, at, line, 3, false, v, n),
-        Content::TextVariable { string: _, n } => put_variable(
+    match ending_of(line) {
+        Ending::Whole => put_all(out, at, line),
+        Ending::Counter { n, tail, opens } => put_counter(out, at, line, tail, opens, v, n),
+        Ending::Variable { n, tail, opens } => put_variable(
             out,
             at,
             line,
-            4,
-            false,
+            tail,
+            opens,
             v,
             n,
             answers,
@@ -114,24 +104,12 @@ fn put_text<'a>(
     }
 }
 
-// A line of the form that draws, with its LF.
-fn put_line<'a>(
-    out: &mut [u8],
-    at: usize,
-    line: &'a [u8],
-    c: Command,
-    v: Values,
-    answers: &'a [u8],
-) -> usize
-    requires { ⌜ ((t : Drawing (now line) c v (now answers)) × (at + length (lineShown (now line) c v (now answers) t) ≤ length (now out))) ⌝ }
-    ensures { λ r. ⌜ ((t : Drawing (now (line .entry)) c v (now (answers .entry))) → Writes (now (out .entry)) at (lineShown (now (line .entry)) c v (now (answers .entry)) t) (now (out .exit)) r) ⌝ }
+// The same with its LF.
+fn put_line<'a>(out: &mut [u8], at: usize, line: &'a [u8], v: Values, answers: &'a [u8]) -> usize
+    requires { ⌜ ((t : Drawing (now line) v (now answers)) × (at + length (lineShown (now line) v (now answers) t) ≤ length (now out))) ⌝ }
+    ensures { λ r. ⌜ ((t : Drawing (now (line .entry)) v (now (answers .entry))) → Writes (now (out .entry)) at (lineShown (now (line .entry)) v (now (answers .entry)) t) (now (out .exit)) r) ⌝ }
 {
-    let Command::Text { put: p } = c else {
-        let a = put_all(out, at, line);
-        return put(out, a, 10);
-    };
-    let content = p.content;
-    let a = put_text(out, at, line, content, v, answers);
+    let a = put_drawn(out, at, line, v, answers);
     put(out, a, 10)
 }
 
@@ -153,11 +131,11 @@ pub fn put_set<'a>(
     let mut given = 0;
     while at < text.len() {
         let end = line_end(text, at);
-        let line = &text[at..end];
-        let c = read_line(line);
+        let bytes = &text[at..end];
+        let line = line_in(bytes);
         at = end + 1;
-        let Line::Definition { define } = line_of(c) else {
-            next = put_line(out, next, line, c, v, answers);
+        let Line::Definition { define } = line else {
+            next = put_line(out, next, bytes, v, answers);
             continue;
         };
         let close = line_end(answers, given);

@@ -27,7 +27,7 @@ unfolding plain escaped
 plain-cons b x = refl
 
 -- the bytes from a place within the line: the byte there and those from the next place
-from-cons : (s : List ℕ) (at : ℕ) → at < length s → from s at ≡ getD s at 0 ∷ from s (at + 1)
+pub from-cons : (s : List ℕ) (at : ℕ) → at < length s → from s at ≡ getD s at 0 ∷ from s (at + 1)
 unfolding from
 from-cons s at h = rw (add-one, drop-cons s at 0)
 

@@ -1,16 +1,16 @@
 -- `check_line` judges a line by its record: in each case the record shows which line it is, or that it is none of a form.
 use mathlib.Core.Path.{refl}
 use borrow.Author.Needs.{needs}
-use Rattle.paper.specs.Form.{valueOf, lenOf, isSize, isDirection, drawing, drawSound}
-use Rattle.line.specs.View.{viewOf, barOf, putOf, Stand}
+use Rattle.paper.specs.Form.{valueOf, lenOf}
+use Rattle.line.specs.View.{viewOf, putOf, Stand}
 use Rattle.form.specs.Sound.{slotOf}
 use Rattle.form.proofs.Lines.{Keeps}
-use Rattle.form.proofs.Judged.{judging, line-judged, define-judged}
+use Rattle.form.proofs.Judged.{judging, line-judged, define-judged, others-judged}
 use Rattle.form.proofs.check.check_line.Statement.{statement}
 use Rattle.form.proofs.check.check_line.Tie as tie
 
 pub check-line-spec : {M : Type 1} → statement M
-unfolding Keeps viewOf barOf putOf Stand valueOf lenOf drawSound drawing isSize isDirection slotOf
+unfolding Keeps viewOf putOf Stand valueOf lenOf slotOf
 check-line-spec =
     tie.close
     (tie.spec
@@ -24,20 +24,6 @@ check-line-spec =
     (λ c. search needs)
     (λ c κs. search needs)
     (λ c κs. search needs)
-    (λ c. search needs)
-    (λ c. search needs)
-    (λ c. search needs)
-    (λ c. search needs)
-    (λ c. search needs)
-    (λ c. search needs)
-    (λ c. search needs)
-    (λ c. search needs)
-    (λ c. search needs)
-    (λ c. search needs)
-    (λ c. search needs)
-    (λ c. search needs)
-    (λ c. search needs)
-    (λ c. search needs)
     (λ c. search judging)
     (λ c. search judging)
     (λ c s l above v h i a.
@@ -49,17 +35,4 @@ check-line-spec =
     (λ c s l above v h i a.
     let is = c .before .before .before .c3 .given .1 in
     define-judged s _ _ _ _ above l _ _ _ _ is refl (c .before .slot-of2 .ensures) refl (c .check-define2 .ensures) v i a)
-    (λ c. search judging)
-    (λ c. search judging)
-    (λ c. search judging)
-    (λ c. search judging)
-    (λ c. search judging)
-    (λ c. search judging)
-    (λ c. search judging)
-    (λ c. search judging)
-    (λ c. search judging)
-    (λ c. search judging)
-    (λ c. search judging)
-    (λ c. search judging)
-    (λ c. search judging)
-    (λ c. search judging))
+    (λ c. search others-judged))

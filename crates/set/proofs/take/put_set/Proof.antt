@@ -21,7 +21,7 @@ inside c = search end-inside
 
 -- the answer to a definition stands in the answers, with its LF
 answer : (c : tie.After-line-end2 Inv-loop μ-loop)
-    → (c .before .before .before .before .before .before .before .before .before .loop .given ≤ c .line-end2 .result) × (c .line-end2 .result < length (c .before .before .before .before .before .before .before .before .before .before .before .before .before .before .before .before .before .before .before .args .answers .now))
+    → (c .before .before .before .before .before .before .before .before .loop .given ≤ c .line-end2 .result) × (c .line-end2 .result < length (c .before .before .before .before .before .before .before .before .before .before .before .before .before .before .before .before .before .before .args .answers .now))
 unfolding lineAt
 answer c = (search answer-begins, search answer-ends)
 
@@ -40,26 +40,23 @@ loop-holds c = search putting-begins
 line-end-requires : tie.Need-line-end-requires Inv-loop μ-loop
 line-end-requires c κs = search needs
 
-sub-line : tie.Need-sub-line Inv-loop μ-loop
-sub-line c = inside c .begins
+sub-bytes : tie.Need-sub-bytes Inv-loop μ-loop
+sub-bytes c = inside c .begins
 
-part-line-start : tie.Need-part-line-start Inv-loop μ-loop
-part-line-start c = let h = inside c in search needs
+part-bytes-start : tie.Need-part-bytes-start Inv-loop μ-loop
+part-bytes-start c = let h = inside c in search needs
 
-part-line-end : tie.Need-part-line-end Inv-loop μ-loop
-part-line-end c = let h = inside c in search needs
+part-bytes-end : tie.Need-part-bytes-end Inv-loop μ-loop
+part-bytes-end c = let h = inside c in search needs
 
-read-line-requires : tie.Need-read-line-requires Inv-loop μ-loop
-read-line-requires c κs = search needs
+line-in-requires : tie.Need-line-in-requires Inv-loop μ-loop
+line-in-requires c κs = search needs
 
 add-at : tie.Need-add-at Inv-loop μ-loop
 add-at c = let h = inside (c .before .before) in omega arith
 
-line-of-requires : tie.Need-line-of-requires Inv-loop μ-loop
-line-of-requires c κs = search needs
-
-enum-known-define : tie.Need-enum-known-define Inv-loop μ-loop
-enum-known-define c = search needs
+enum-known-line : tie.Need-enum-known-line Inv-loop μ-loop
+enum-known-line c = search needs
 
 enum-told : tie.Need-enum-told Inv-loop μ-loop
 enum-told c = search needs
@@ -67,13 +64,13 @@ enum-told c = search needs
 put-line-requires : tie.Need-put-line-requires Inv-loop μ-loop
 unfolding lineAt
 put-line-requires c κs =
-    let s = c .before .before .before .before .before .before .before .before .before .before .before .before .before .before .before .before .before .before in
-    let l = c .before .before .before .before .before .before .before .before .loop in
+    let s = c .before .before .before .before .before .before .before .before .before .before .before .before .before .before .before .before .before in
+    let l = c .before .before .before .before .before .before .before .loop in
     let h : l .at < length (s .args .text .now) = omega arith in
-    putting-draws _ _ _ _ _ _ _ _ _ _ _ _ _ _ (l .inv) h (c .before .before .before .before .before .before .line-end .ensures) (c .before .before .before .before .read-line .ensures) (c .before .before .before .line-of .ensures) (search needs) (s .pre .0)
+    putting-draws _ _ _ _ _ _ _ _ _ _ _ _ _ (l .inv) h (c .before .before .before .before .before .line-end .ensures) (c .before .before .before .line-in .ensures) (search needs) (s .pre .0)
 
 loop-less : tie.Need-loop-less Inv-loop μ-loop
-loop-less c = let h = inside (c .before .before .before .before .before .before .before .before .before) in omega arith
+loop-less c = let h = inside (c .before .before .before .before .before .before .before .before) in omega arith
 
 loop-again : tie.Need-loop-again Inv-loop μ-loop
 unfolding lineAt
@@ -86,14 +83,14 @@ with-value-requires : tie.Need-with-value-requires Inv-loop μ-loop
 unfolding lineAt
 with-value-requires c κs =
     let h = answer c in
-    let few : c .before .before .before .before .before .before .before .before .before .before .before .before .before .before .before .before .before .before .before .args .i ≤ 65535 = search taking-number in
+    let few : c .before .before .before .before .before .before .before .before .before .before .before .before .before .before .before .before .before .before .args .i ≤ 65535 = search taking-number in
     ((omega arith, omega arith, omega arith), search putting-fits)
 
 add-given : tie.Need-add-given Inv-loop μ-loop
-add-given c = let h = answer (c .before) in omega (arith, c .before .before .before .before .before .before .before .before .before .before .before .before .before .before .before .before .before .before .before .before .good .1 .1 .0 .0)
+add-given c = let h = answer (c .before) in omega (arith, c .before .before .before .before .before .before .before .before .before .before .before .before .before .before .before .before .before .before .before .good .1 .1 .0 .0)
 
 loop-less-2 : tie.Need-loop-less-2 Inv-loop μ-loop
-loop-less-2 c = let h = inside (c .before .before .before .before .before .before .before .before) in omega arith
+loop-less-2 c = let h = inside (c .before .before .before .before .before .before .before) in omega arith
 
 loop-again-2 : tie.Need-loop-again-2 Inv-loop μ-loop
 unfolding lineAt
@@ -132,13 +129,12 @@ put-set-spec =
     put-all-requires
     loop-holds
     line-end-requires
-    sub-line
-    part-line-start
-    part-line-end
-    read-line-requires
+    sub-bytes
+    part-bytes-start
+    part-bytes-end
+    line-in-requires
     add-at
-    line-of-requires
-    enum-known-define
+    enum-known-line
     enum-told
     put-line-requires
     loop-less

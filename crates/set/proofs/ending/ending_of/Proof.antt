@@ -1,0 +1,30 @@
+-- Each return is the law of the bytes that were tested before it.
+use borrow.Author.Needs.{needs}
+use native.Mathlib.Omega.{arith}
+use Rattle.set.proofs.LastBytes.{whole-short, whole-other, whole-closed, counter-alone, counter-joined, variable-alone, variable-joined}
+use Rattle.set.proofs.ending.ending_of.Statement.{statement}
+use Rattle.set.proofs.ending.ending_of.Tie as tie
+
+pub ending-of-spec : {M : Type 1} → statement M
+ending-of-spec =
+    tie.close
+    (tie.spec
+    (λ c. search whole-short)
+    (λ c. search needs)
+    (λ c. search whole-other)
+    (λ c. search needs)
+    (λ c. search needs)
+    (λ c. search whole-closed)
+    (λ c κs. search needs)
+    (λ c. search needs)
+    (λ c. search needs)
+    (λ c. search needs)
+    (λ c. search needs)
+    (λ c. search counter-alone)
+    (λ c. search counter-joined)
+    (λ c κs. search needs)
+    (λ c. omega arith)
+    (λ c. omega arith)
+    (λ c. search needs)
+    (λ c. search variable-alone)
+    (λ c. search variable-joined))

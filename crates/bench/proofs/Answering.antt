@@ -16,7 +16,7 @@ use Rattle.paper.specs.Set.{fits}
 use Rattle.paper.specs.Form.{Form, textOf, withinLimits, asked}
 use Rattle.paper.specs.State.{allIn, Storable, fitting, Sound}
 use Rattle.paper.proofs.Invariant.{fitting-more}
-use Rattle.paper.proofs.Law.{if-true, if-false, and-left, and-right}
+use Rattle.paper.proofs.Law.{if-true, if-false, and-left}
 use Rattle.paper.proofs.Text.{clear-control, clear-between}
 use Rattle.paper.specs.Bench as P
 use Rattle.text.specs.Place.{from}

@@ -22,7 +22,6 @@ use Rattle.paper.proofs.Text.{same-eq}
 use Rattle.line.specs.View.{width, refusalOf, textIn}
 use Rattle.line.specs.Normal.{Meets}
 use Rattle.line.specs.declared.command.Answer.{Answer}
-use Rattle.line.specs.declared.command.Answer.the-variants as A
 use Rattle.line.specs.declared.command.Refusal.the-variants as W
 use Rattle.form.specs.Asked.{nextOf}
 use Rattle.form.specs.declared.asked.Next.{Next}

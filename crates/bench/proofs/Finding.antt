@@ -14,7 +14,7 @@ use Rattle.paper.proofs.Store.{find-storable}
 use Rattle.paper.proofs.Test.{either}
 use Rattle.line.specs.View.{width}
 use Rattle.text.specs.Write.{padded}
-use Rattle.store.specs.Packed.{entry, textsOf, packed, partOf, findFrom, withoutIn, linesOf, listingOf}
+use Rattle.store.specs.Packed.{entry, textsOf, packed, bytesAt, findFrom, withoutIn, linesOf, listingOf}
 use Rattle.store.specs.declared.Store.{Store}
 use Rattle.store.specs.declared.Found.the-variants as F
 use Rattle.bench.specs.Memory.{entriesOf, packedStore}
@@ -54,12 +54,12 @@ record Stands (name : List ℕ) (fs : List Form) (whole : List ℕ) (start len :
   found : find name fs ≡ some lines
   size : len ≡ length (textOf lines)
   inside : start + len ≤ length whole
-  part : partOf whole start len ≡ textOf lines
+  part : bytesAt whole start len ≡ textOf lines
 
 -- what is found is the form of the name, and its text stands there, whatever stands before and behind
 stands : (name : List ℕ) (fs : List Form) (whole before more : List ℕ) (i index start len : ℕ) → whole ≡ before ++ (textsOf (entriesOf fs) ++ more)
     → findFrom i (length before) name (entriesOf fs) ≡ F.At index start len → Stands name fs whole start len
-unfolding entriesOf entry textsOf findFrom find if_then_else_ partOf
+unfolding entriesOf entry textsOf findFrom find if_then_else_ bytesAt
 stands name [] whole before more i index start len w e = let z : _≡_ {A = ℕ} 0 1 = cc in absurd (omega arith)
 stands name (f ∷ fs) whole before more i index start len w e =
     either (same name (f .name))

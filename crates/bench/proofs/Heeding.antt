@@ -17,7 +17,6 @@ use Rattle.paper.proofs.Invariant.{print-in}
 use Rattle.line.specs.View.{width, refusalOf, textIn, putOf, barOf, viewOf, Stand}
 use Rattle.line.specs.Given.{IsRead}
 use Rattle.line.specs.declared.command.Refusal.{Refusal}
-use Rattle.line.specs.declared.command.Refusal.the-variants as W
 use Rattle.line.specs.declared.command.Command.{Command}
 use Rattle.line.specs.declared.command.Command.the-variants as L
 use Rattle.line.proofs.command.Command as Tag

@@ -2,7 +2,7 @@
 -- can be answered, and a definition takes a place that was free above it.
 use Prim.Native.Nat.{ℕ, zero, suc, _+_, _≤_, _<_}
 use mathlib.Core.Path.{_≡_, refl}
-use mathlib.Core.Bool.{true, not, false≢true}
+use mathlib.Core.Bool.{true, false≢true}
 use mathlib.Core.List.{List, [], _∷_, _++_}
 use mathlib.Core.Option.{Option, none, some, Option·some-ne-none}
 use native.Mathlib.Omega.{arith}
@@ -12,7 +12,7 @@ use borrow.Author.Tests.{leb-true, eqb-true, eqb-false, eq-eqb, not-true}
 use Rattle.paper.specs.Byte.{if_then_else_}
 use Rattle.paper.specs.Line.{lf}
 use Rattle.paper.specs.Command.{Value, counter, variable, Define, counting, varying, FormLine, draw, define, drawRanges, defineRanges, ranges, allOf, inRange}
-use Rattle.paper.specs.Form.{asked, valueOf, lenOf, sameValue, defined, isSome, valueSound, firstBroken, unsoundAt}
+use Rattle.paper.specs.Form.{asked, valueOf, lenOf, sameValue, defined, valueSound, firstBroken, unsoundAt}
 use Rattle.paper.specs.Set.{fits}
 use Rattle.paper.specs.State.{allIn, Storable, fitting}
 use Rattle.paper.proofs.Invariant.{not-some}

@@ -16,7 +16,7 @@ use Rattle.line.specs.View.{width, viewOf, textIn, Holds}
 use Rattle.line.specs.Normal.{Meets}
 use Rattle.line.specs.declared.command.Command as L
 use Rattle.text.specs.declared.read.Span.{Span}
-use Rattle.store.specs.Packed.{partOf}
+use Rattle.store.specs.Packed.{bytesAt}
 use Rattle.store.specs.declared.Store.{Store}
 use Rattle.bench.specs.Memory.{named, placeBehind, packedSession, packedStore}
 use Rattle.bench.specs.declared.name.Name.{Name}
@@ -98,7 +98,7 @@ pub record Opens (store : Store) (start len : ℕ) : Type 0 where
   pub storable : Storable width lines
   pub size : len ≡ length (textOf lines)
   pub inside : start + len ≤ length (store .text)
-  pub part : partOf (store .text) start len ≡ textOf lines
+  pub part : bytesAt (store .text) start len ≡ textOf lines
 
 -- a record that was read is a line for a form
 pub record Keeps (s : List ℕ) (c : L.Command) : Type 0 where

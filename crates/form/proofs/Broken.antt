@@ -20,10 +20,10 @@ use Rattle.text.specs.Place.{from}
 use Rattle.line.specs.View.{width, viewOf, Stand}
 use Rattle.line.specs.Given.{IsRead}
 use Rattle.line.specs.declared.command.Command.{Command}
-use Rattle.form.specs.Walk.{firstLine}
+use Rattle.form.specs.Walk.{firstLine, partOf}
 use Rattle.form.specs.Sound.{Agrees, Judges, lineNumber}
 use Rattle.form.specs.declared.check.Checked.{Checked}
-use Rattle.form.proofs.Lines.{lineAt, end-inside, Turn, line-turn, line-reads, lines-end}
+use Rattle.form.proofs.Lines.{end-inside, Turn, line-turn, line-reads, lines-end}
 
 -- a line that keeps the rules leaves the rest to the lines below it
 broken-below : (k : ℕ) (above : List P.Define) (l : P.FormLine) (ls : List P.FormLine) → all (rules k above l) ≡ true → firstBroken k above (l ∷ ls) ≡ firstBroken (k + 1) (above ++ asked (l ∷ [])) ls
@@ -63,11 +63,11 @@ check-begins text lens a = record {
 }
 
 module _ (text lens : List ℕ) (at k end : ℕ) (c : Command) (r : Checked) (h : Checking text lens at k) (p : at < length text)
-    (e : end ≡ at + length (firstLine (from text at))) (read : IsRead (lineAt text at end) c) (checks : Checks k lens c r) where
+    (e : end ≡ at + length (firstLine (from text at))) (read : IsRead (partOf text at end) c) (checks : Checks k lens c r) where
   -- the line is judged below the definitions above it
   judged : (above : List P.Define) → Agrees lens above → {rest : List P.FormLine} (t : Turn text at rest end) → Judges k above (t .line) r
   judged above a t =
-      let d = line-reads (lineAt text at end) (t .line) c (t .stands) (t .range) read in
+      let d = line-reads (partOf text at end) (t .line) c (t .stands) (t .range) read in
       checks (lineText (t .line)) (t .line) above (d .view) (d .stand) (t .range) a
 
   -- a line keeps the rules

@@ -19,6 +19,7 @@ use Rattle.text.specs.declared.read.Number.the-variants.{Value, Bad}
 use Rattle.line.specs.View.{width, stepOf}
 use Rattle.line.specs.Part.{saidStep}
 use Rattle.line.specs.declared.command.Step.{Step}
+use Rattle.line.specs.declared.command.Step.the-variants.{Up, Down}
 use Rattle.line.specs.declared.parts.StepRead.{StepRead}
 use Rattle.line.specs.declared.parts.StepRead.the-variants as S
 use Rattle.line.proofs.Chain.{number-got, number-bad}
@@ -26,7 +27,12 @@ use Rattle.form.specs.Asked.{stepIn, defineOf, lineOf}
 use Rattle.form.specs.declared.asked.Define.the-variants.{Counter, Variable}
 use Rattle.form.specs.declared.asked.Line.{Line}
 use Rattle.form.specs.declared.asked.Line.the-variants.{Definition, Other}
-use Rattle.form.proofs.Wanted.{step-again}
+
+-- a step of the code as the paper's is that step again
+step-again : (step : Step) → stepIn (stepOf step) ≡ step
+unfolding stepIn stepOf
+step-again (Up n) = refl
+step-again (Down n) = refl
 
 -- a variable's definition behind its letter, as far as it is read: two digits and a len
 unfoldable pub variableParts : Reader Line

@@ -5,7 +5,7 @@ use mathlib.Core.Bool.{true, false, true≢false}
 use mathlib.Core.List.{List, [], _∷_, _++_}
 use native.Mathlib.Omega.{arith}
 use native.Mathlib.Numerals.{add-one}
-use lib.ListN.{length, take, drop, getD, drop-of-length-le, length-append, length-drop}
+use lib.ListN.{length, drop, getD, drop-of-length-le, length-append, length-drop}
 use lib.Seq.{drop-cons, drop-drop, drop-append-add, take-at}
 use lib.Dec.{ltb, eqb}
 use borrow.Author.Tests.{ltb-false, eq-eqb, ne-eqb}
@@ -23,7 +23,7 @@ use Rattle.text.specs.Place.{from}
 use Rattle.line.specs.View.{width, viewOf, Stand}
 use Rattle.line.specs.Given.{IsRead}
 use Rattle.line.specs.declared.command.Command.{Command}
-use Rattle.form.specs.Walk.{firstLine}
+use Rattle.form.specs.Walk.{firstLine, partOf}
 
 -- the walk to a line's end: one byte more is no LF
 pub end-turns : (text : List ℕ) (at i : ℕ) → at + length (firstLine (from text at)) ≡ i + length (firstLine (from text i)) → i < length text → (getD text i 0 ≡ 10 → ⊥) → at + length (firstLine (from text at)) ≡ i + 1 + length (firstLine (from text (i + 1)))
@@ -82,16 +82,12 @@ pub kept : (K : FormLine → Type 0) (s : List ℕ) (c d : Command) (l : FormLin
 unfolding Keeps
 kept K s c d l e k v = let is : viewOf s d ≡ command (keep l) = rw (← e) v in rw is at k
 
--- the line from a place up to its end
-unfoldable pub lineAt : List ℕ → ℕ → ℕ → List ℕ
-lineAt text at end = take (end - at) (drop at text)
-
 -- a line of a form at a place of its text, and behind its LF the other lines
 pub record Turn (text : List ℕ) (at : ℕ) (rest : List FormLine) (end : ℕ) : Type 0 where
   pub line : FormLine
   pub more : List FormLine
   pub is : rest ≡ line ∷ more
-  pub stands : lineAt text at end ≡ lineText line
+  pub stands : partOf text at end ≡ lineText line
   pub place : end ≡ at + length (lineText line)
   pub after : from text (end + 1) ≡ textOf more
   pub below : allIn width more ≡ true
@@ -108,7 +104,7 @@ lines-end text at (l ∷ more) e h =
 
 -- the line at a place before the end
 pub line-turn : (text : List ℕ) (at : ℕ) (rest : List FormLine) (end : ℕ) → from text at ≡ textOf rest → allIn width rest ≡ true → at < length text → end ≡ at + length (firstLine (from text at)) → Turn text at rest end
-unfolding from textOf linesText allIn normal lineAt
+unfolding from textOf linesText allIn normal partOf
 line-turn text at [] end e i h p = absurd (omega (arith, length-drop at text, ap length e))
 line-turn text at (l ∷ more) end e i h p =
     let inside : inRange width (keep l) ≡ true = and-left _ (allIn width more) i in

@@ -18,24 +18,17 @@ use Rattle.paper.specs.Set.{fits}
 use Rattle.paper.specs.Write.{lineText}
 use Rattle.paper.specs.State.{allIn}
 use Rattle.text.specs.Place.{from}
-use Rattle.line.specs.View.{width, stepOf}
+use Rattle.line.specs.View.{width}
 use Rattle.line.specs.declared.command.Step.{Step}
-use Rattle.line.specs.declared.command.Step.the-variants.{Up, Down}
-use Rattle.form.specs.Walk.{firstLine}
-use Rattle.form.specs.Asked.{stepIn, defineOf, lineOf, nextOf}
+use Rattle.form.specs.Walk.{firstLine, partOf}
+use Rattle.form.specs.Asked.{defineOf, lineOf, nextOf}
 use Rattle.form.specs.declared.asked.Define.{Define}
 use Rattle.form.specs.declared.asked.Define.the-variants.{Counter, Variable}
 use Rattle.form.specs.declared.asked.Line.{Line}
 use Rattle.form.specs.declared.asked.Line.the-variants.{Definition, Other}
 use Rattle.form.specs.declared.asked.Next.{Next}
 use Rattle.form.specs.declared.asked.Next.the-variants.{Asked, Nothing}
-use Rattle.form.proofs.Lines.{lineAt, line-turn, lines-end}
-
--- a step of the code as the paper's is that step again
-pub step-again : (step : Step) → stepIn (stepOf step) ≡ step
-unfolding stepIn stepOf
-step-again (Up n) = refl
-step-again (Down n) = refl
+use Rattle.form.proofs.Lines.{line-turn, lines-end}
 
 -- an answer is the next definition of a text from a place on
 abbrev pub NextFrom : List ℕ → ℕ → Next → Type 0
@@ -82,7 +75,7 @@ abbrev pub Told : List ℕ → Line → Type 0
 Told s line = (l : P.FormLine) → s ≡ lineText l → inRange width (P.keep l) ≡ true → line ≡ lineOf l
 
 -- a line that only draws is passed over
-pub seek-turns : (text : List ℕ) (start at end : ℕ) (line : Line) → Seeking text start at → at < length text → end ≡ at + length (firstLine (from text at)) → Told (lineAt text at end) line → line ≡ Other → Seeking text start (end + 1)
+pub seek-turns : (text : List ℕ) (start at end : ℕ) (line : Line) → Seeking text start at → at < length text → end ≡ at + length (firstLine (from text at)) → Told (partOf text at end) line → line ≡ Other → Seeking text start (end + 1)
 seek-turns text start at end line h p e told is = record { seeking = λ rest q i. go rest (h .seeking rest q i) }
   where
     go : (rest : List P.FormLine) → Left text start rest at → Left text start rest (end + 1)
@@ -100,7 +93,7 @@ seek-turns text start at end line h p e told is = record { seeking = λ rest q i
         }
 
 -- a definition is found
-pub seek-finds : (text : List ℕ) (start at end : ℕ) (line : Line) (define : Define) → Seeking text start at → at < length text → end ≡ at + length (firstLine (from text at)) → Told (lineAt text at end) line → line ≡ Definition define → (rest : List P.FormLine) → from text start ≡ textOf rest → allIn width rest ≡ true → Asked define (end + 1) ≡ nextOf start rest
+pub seek-finds : (text : List ℕ) (start at end : ℕ) (line : Line) (define : Define) → Seeking text start at → at < length text → end ≡ at + length (firstLine (from text at)) → Told (partOf text at end) line → line ≡ Definition define → (rest : List P.FormLine) → from text start ≡ textOf rest → allIn width rest ≡ true → Asked define (end + 1) ≡ nextOf start rest
 seek-finds text start at end line define h p e told is rest q i =
     let l = h .seeking rest q i in
     let t = line-turn text at (l .left) end (l .here) (l .inside) p e in

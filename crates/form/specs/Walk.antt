@@ -1,6 +1,7 @@
 -- The lines of a text.
-use Prim.Native.Nat.{ℕ}
+use Prim.Native.Nat.{ℕ, _-_}
 use mathlib.Core.List.{List, [], _∷_}
+use lib.ListN.{take, drop}
 use lib.Dec.{eqb}
 use Rattle.paper.specs.Byte.{if_then_else_}
 use Rattle.paper.specs.Line.{lf}
@@ -9,3 +10,7 @@ use Rattle.paper.specs.Line.{lf}
 unfoldable pub firstLine : List ℕ → List ℕ
 firstLine [] = []
 firstLine (b ∷ s) = if eqb b lf then [] else (b ∷ firstLine s)
+
+-- the bytes from one place up to another
+unfoldable pub partOf : List ℕ → ℕ → ℕ → List ℕ
+partOf s start end = take (end - start) (drop start s)

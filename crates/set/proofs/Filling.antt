@@ -8,7 +8,8 @@ use lib.ListN.{length, take, drop, length-append}
 use Rattle.text.specs.Write.{Writes}
 use Rattle.text.proofs.Written.{writes-then, writes-length}
 use Rattle.paper.specs.Line.{escape}
-use Rattle.set.specs.Fill.{headText, partOf, shownPart, Within}
+use Rattle.form.specs.Walk.{partOf}
+use Rattle.set.specs.Fill.{headText, shownPart, Within}
 use Rattle.set.specs.Told.{placeBegins, placeEnds, answeredLine}
 use Rattle.set.specs.declared.values.Values.{Values}
 

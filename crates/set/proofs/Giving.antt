@@ -16,10 +16,10 @@ use Rattle.paper.proofs.Law.{and-right}
 use Rattle.paper.proofs.Test.{held}
 use Rattle.line.specs.View.{stepOf}
 use Rattle.line.specs.declared.command.Step.{Step}
+use Rattle.form.specs.Walk.{partOf}
 use Rattle.form.specs.Asked.{defineOf, stepIn}
 use Rattle.form.specs.declared.asked.Define.{Define}
 use Rattle.form.specs.declared.asked.Define.the-variants.{Counter, Variable}
-use Rattle.set.specs.Fill.{partOf}
 use Rattle.set.specs.Told.{noted, placed}
 use Rattle.set.specs.Taking.{Fits, Tells}
 use Rattle.set.specs.declared.values.Values.{Values}

@@ -19,16 +19,15 @@ use Rattle.paper.proofs.Test.{Passed, held}
 use Rattle.text.specs.Place.{from}
 use Rattle.line.specs.View.{stepOf}
 use Rattle.line.specs.declared.command.Step.{Step}
-use Rattle.form.specs.Walk.{firstLine}
+use Rattle.form.specs.Walk.{firstLine, partOf}
 use Rattle.form.specs.Asked.{defineOf, stepIn}
 use Rattle.form.specs.declared.asked.Define.{Define}
 use Rattle.form.specs.declared.asked.Define.the-variants.{Counter, Variable}
 use Rattle.form.specs.declared.asked.Line.{Line}
 use Rattle.form.specs.declared.asked.Line.the-variants.{Definition, Other}
-use Rattle.form.proofs.Lines.{Inside, lineAt, lines-end}
+use Rattle.form.proofs.Lines.{Inside, lines-end}
 use Rattle.form.proofs.Wanted.{Told}
 use Rattle.set.specs.Count.{sizeOf}
-use Rattle.set.specs.Fill.{partOf}
 use Rattle.set.specs.Taking.{Answered, Fits}
 use Rattle.set.proofs.Walking.{Walk, Asks, walk-draws, walk-asks}
 
@@ -143,7 +142,7 @@ holds-end text answers last at given h p t =
     sym (l .decides ∙ rw (lines-end text at (l .left) (l .walk .here) p))
 
 module _ (text answers : List ℕ) (last at given end : ℕ) (line : Line) (h : Holding text answers last at given) (p : at < length text) (e : end ≡ at + length (firstLine (from text at)))
-    (told : Told (lineAt text at end) line) where
+    (told : Told (partOf text at end) line) where
   -- a line that draws decides nothing
   pub holds-draws : line ≡ Other → Holding text answers last (end + 1) given
   unfolding asked

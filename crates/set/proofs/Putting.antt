@@ -25,13 +25,12 @@ use Rattle.text.specs.Place.{from}
 use Rattle.text.specs.Write.{Writes}
 use Rattle.text.proofs.Written.{Writing, writing-begins, writing-turns, writing-room, writing-ends, writes-then}
 use Rattle.line.specs.View.{width}
-use Rattle.form.specs.Walk.{firstLine}
+use Rattle.form.specs.Walk.{firstLine, partOf}
 use Rattle.form.specs.declared.asked.Define.{Define}
 use Rattle.form.specs.declared.asked.Line.{Line}
 use Rattle.form.specs.declared.asked.Line.the-variants.{Definition, Other}
-use Rattle.form.proofs.Lines.{lineAt, lines-end}
+use Rattle.form.proofs.Lines.{lines-end}
 use Rattle.form.proofs.Wanted as W
-use Rattle.set.specs.Fill.{partOf}
 use Rattle.set.specs.Told.{Told}
 use Rattle.set.specs.Taking.{Taking, Fits, Tells}
 use Rattle.set.specs.Showing.{shownLine, Drawing, drawingShown, lineShown}
@@ -141,7 +140,7 @@ module _ (text answers : List ℕ) (copies i : ℕ) (t : Taking text answers cop
       (all-three .1, rw append-nil at (all-three .2))
 
   -- and is a line to be drawn
-  pub making-draws : Drawing (lineAt text at end) v answers
+  pub making-draws : Drawing (partOf text at end) v answers
   unfolding inRange ranges
   making-draws =
       record {
@@ -157,7 +156,7 @@ module _ (text answers : List ℕ) (copies i : ℕ) (t : Taking text answers cop
 
   -- what it becomes is the next of the set
   making-next : restOf (valueIn (asked (t .form .lines)) (t .form .given) i) (m .left) copies
-      ≡ lineShown (lineAt text at end) v answers making-draws ++ restOf (valueIn (asked (t .form .lines)) (t .form .given) i) (d .more) copies
+      ≡ lineShown (partOf text at end) v answers making-draws ++ restOf (valueIn (asked (t .form .lines)) (t .form .given) i) (d .more) copies
   unfolding lineShown drawingShown making-draws shownLine
   making-next =
       ap (λ x. restOf (valueIn (asked (t .form .lines)) (t .form .given) i) x copies) (d .is)
@@ -166,13 +165,13 @@ module _ (text answers : List ℕ) (copies i : ℕ) (t : Taking text answers cop
       (placed-whole (asked (t .form .lines)) (m .above) (asked (m .left)) (t .form .given) (m .before) (m .later) i (d .draw) (m .defines) (m .answered) (fitting-paired (m .above) (m .before) (m .fit)) (sound-next .0))
 
   -- there is room for it
-  pub making-room : next + length (lineShown (lineAt text at end) v answers making-draws) ≤ length new
+  pub making-room : next + length (lineShown (partOf text at end) v answers making-draws) ≤ length new
   making-room =
-      writing-room old place _ _ new next (lineShown (lineAt text at end) v answers making-draws) (restOf (valueIn (asked (t .form .lines)) (t .form .given) i) (d .more) copies) (m .writing)
+      writing-room old place _ _ new next (lineShown (partOf text at end) v answers making-draws) (restOf (valueIn (asked (t .form .lines)) (t .form .given) i) (d .more) copies) (m .writing)
       making-next
 
   -- and with it the set goes on
-  pub making-goes : (newer : List ℕ) (after : ℕ) → Writes new next (lineShown (lineAt text at end) v answers making-draws) newer after
+  pub making-goes : (newer : List ℕ) (after : ℕ) → Writes new next (lineShown (partOf text at end) v answers making-draws) newer after
       → Making text answers copies i t old place v newer after (end + 1) given
   unfolding asked
   making-goes newer after w =
@@ -188,7 +187,7 @@ module _ (text answers : List ℕ) (copies i : ℕ) (t : Taking text answers cop
         fit = m .fit;
         told = m .told;
         sound = sound-next .1;
-        writing = writing-turns old place _ _ new next (lineShown (lineAt text at end) v answers making-draws) _ newer after (m .writing) making-next w;
+        writing = writing-turns old place _ _ new next (lineShown (partOf text at end) v answers making-draws) _ newer after (m .writing) making-next w;
       }
 
 module _ (text answers : List ℕ) (copies i : ℕ) (t : Taking text answers copies i) (old : List ℕ) (place : ℕ) (v : Values) (new : List ℕ) (next at given end close : ℕ) (define : Define)
@@ -221,19 +220,19 @@ module _ (text answers : List ℕ) (copies i : ℕ) (t : Taking text answers cop
       }
 
 module _ (text answers : List ℕ) (copies i : ℕ) (old : List ℕ) (place : ℕ) (v : Values) (new : List ℕ) (next at given end : ℕ) (line : Line) (h : Putting text answers copies i old place v new next at given) (p : at < length text)
-    (e : end ≡ at + length (firstLine (from text at))) (told : W.Told (lineAt text at end) line) where
+    (e : end ≡ at + length (firstLine (from text at))) (told : W.Told (partOf text at end) line) where
   module _ (is : line ≡ Other) where
     -- a line that draws is met, for a set of these bytes
     drawing : (t : Taking text answers copies i) → Draws text answers at given end (h .putting t .left) (h .putting t .later)
     drawing t = let m = h .putting t in walk-draws text answers at given end line (m .left) (m .later) (m .walk) p e told is
 
     -- it is drawn, and there is room for it
-    pub putting-draws : Taking text answers copies i → (t : Drawing (lineAt text at end) v answers) × (next + length (lineShown (lineAt text at end) v answers t) ≤ length new)
+    pub putting-draws : Taking text answers copies i → (t : Drawing (partOf text at end) v answers) × (next + length (lineShown (partOf text at end) v answers t) ≤ length new)
     putting-draws t =
         (making-draws text answers copies i t old place v new next at given end (h .putting t) (drawing t), making-room text answers copies i t old place v new next at given end (h .putting t) (drawing t))
 
     -- and with it the set goes on
-    pub putting-goes : (newer : List ℕ) (after : ℕ) → ((t : Drawing (lineAt text at end) v answers) → Writes new next (lineShown (lineAt text at end) v answers t) newer after)
+    pub putting-goes : (newer : List ℕ) (after : ℕ) → ((t : Drawing (partOf text at end) v answers) → Writes new next (lineShown (partOf text at end) v answers t) newer after)
         → Putting text answers copies i old place v newer after (end + 1) given
     putting-goes newer after w =
         record {

@@ -13,7 +13,7 @@ use Rattle.paper.specs.Command as P
 use Rattle.paper.specs.Form.{defined, valueOf, sameValue, isSome}
 use Rattle.paper.specs.Byte.{decimal}
 use Rattle.paper.specs.Set.{amount, valueAt, padded, valueIn, shows}
-use Rattle.set.specs.Fill.{partOf}
+use Rattle.form.specs.Walk.{partOf}
 use Rattle.set.specs.Told.{noted, placed, Told}
 use Rattle.set.specs.declared.values.Values.{Values}
 use Rattle.paper.proofs.Law.{if-true, if-false}

@@ -15,19 +15,18 @@ use Rattle.paper.specs.Command.{isShown, inRange, ranges, allOf, defineRanges}
 use Rattle.paper.specs.Form.{textOf, asked}
 use Rattle.paper.specs.Set.{fits}
 use Rattle.paper.specs.State.{allIn, fitting}
-use Rattle.paper.specs.Write.{lineText, normal, linesText}
+use Rattle.paper.specs.Write.{lineText}
 use Rattle.paper.proofs.Law.{if-true, if-false, and-left, and-right}
 use Rattle.paper.proofs.Test.{either, clash}
 use Rattle.text.specs.Place.{from}
 use Rattle.line.specs.View.{width}
-use Rattle.form.specs.Walk.{firstLine}
+use Rattle.form.specs.Walk.{firstLine, partOf}
 use Rattle.form.specs.Asked.{defineOf, lineOf}
 use Rattle.form.specs.declared.asked.Define.{Define}
 use Rattle.form.specs.declared.asked.Line.{Line}
 use Rattle.form.specs.declared.asked.Line.the-variants.{Definition, Other}
-use Rattle.form.proofs.Lines.{Turn, line-turn, lineAt}
+use Rattle.form.proofs.Lines.{Turn, line-turn}
 use Rattle.form.proofs.Wanted.{Told}
-use Rattle.set.specs.Fill.{partOf}
 use Rattle.set.specs.Taking.{answersText, Fits}
 
 -- bytes that pass a test, which LF does not, are the first line up to an LF
@@ -80,7 +79,7 @@ pub record Draws (text answers : List ℕ) (at given end : ℕ) (left : List P.F
   pub draw : P.Draw
   pub more : List P.FormLine
   pub is : left ≡ P.draw draw ∷ more
-  pub line : lineAt text at end ≡ lineText (P.draw draw)
+  pub line : partOf text at end ≡ lineText (P.draw draw)
   pub range : inRange width (P.keep (P.draw draw)) ≡ true
   pub next : Walk text answers (end + 1) given more later
 
@@ -131,7 +130,7 @@ unfolding inRange ranges
 define-range d e = e
 
 module _ (text answers : List ℕ) (at given end : ℕ) (line : Line) (left : List P.FormLine) (later : List (List ℕ)) (w : Walk text answers at given left later) (h : at < length text)
-    (e : end ≡ at + length (firstLine (from text at))) (told : Told (lineAt text at end) line) where
+    (e : end ≡ at + length (firstLine (from text at))) (told : Told (partOf text at end) line) where
   -- the line that stands there
   turn : Turn text at left end
   turn = line-turn text at left end (w .here) (w .inside) h e
@@ -144,7 +143,7 @@ module _ (text answers : List ℕ) (at given end : ℕ) (line : Line) (left : Li
   pub walk-draws : line ≡ Other → Draws text answers at given end left later
   walk-draws is = go (turn .line) (turn .is) (turn .stands) (turn .range) (is-told Other is)
     where
-      go : (l : P.FormLine) → left ≡ l ∷ turn .more → lineAt text at end ≡ lineText l → inRange width (P.keep l) ≡ true → lineOf l ≡ Other → Draws text answers at given end left later
+      go : (l : P.FormLine) → left ≡ l ∷ turn .more → partOf text at end ≡ lineText l → inRange width (P.keep l) ≡ true → lineOf l ≡ Other → Draws text answers at given end left later
       go (P.draw d) f s i o =
           record {
             draw = d;

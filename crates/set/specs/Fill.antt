@@ -1,17 +1,13 @@
 -- A line of a set with a value in place, in pieces.
-use Prim.Native.Nat.{ℕ, _-_, _≤_}
+use Prim.Native.Nat.{ℕ, _≤_}
 use mathlib.Core.Bool.{Bool, true, false}
 use mathlib.Core.List.{List, [], _∷_, _++_}
-use lib.ListN.{take, drop}
+use Rattle.form.specs.Walk.{partOf}
 
 -- a line up to its value: a value that stands alone has its opening quote still to come
 unfoldable pub headText : List ℕ → Bool → List ℕ
 headText head true = head ++ (34 ∷ [])
 headText head false = head
-
--- the bytes from one place up to another
-unfoldable pub partOf : List ℕ → ℕ → ℕ → List ℕ
-partOf s start end = take (end - start) (drop start s)
 
 -- the part that is shown: of the answers, or of the form's text
 unfoldable pub shownPart : Bool → List ℕ → List ℕ → ℕ → ℕ → List ℕ

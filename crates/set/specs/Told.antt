@@ -10,7 +10,8 @@ use Rattle.paper.specs.Line.{escape}
 use Rattle.paper.specs.Command as P
 use Rattle.paper.specs.Form.{defined}
 use Rattle.paper.specs.Set.{padded, valueIn}
-use Rattle.set.specs.Fill.{headText, partOf}
+use Rattle.form.specs.Walk.{partOf}
+use Rattle.set.specs.Fill.{headText}
 use Rattle.set.specs.declared.values.Values.{Values}
 
 -- nothing is noted yet

@@ -5,7 +5,7 @@ ghost use lib.ListN.{length};
 ghost use Rattle.paper.specs.Form.{asked};
 ghost use Rattle.paper.specs.Set.{holdsTo, allHold, setOf};
 ghost use Rattle.text.specs.Write.{Writes};
-ghost use Rattle.set.specs.Fill.{partOf};
+ghost use Rattle.form.specs.Walk.{partOf};
 ghost use Rattle.set.specs.Showing.{Drawing, drawingShown, lineShown};
 ghost use Rattle.set.specs.Taking.{Answered, Taking, Fits, Tells};
 use crate::count::amount;

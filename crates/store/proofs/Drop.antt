@@ -11,7 +11,7 @@ use lib.Dec.{leb, ltb}
 use borrow.Author.Tests.{lt-ltb, le-ltb}
 use Rattle.paper.specs.Byte.{if_then_else_, same}
 use Rattle.paper.proofs.Law.{if-true, if-false, by-test}
-use Rattle.store.specs.Packed.{Entry, entry, textsOf, packed, Kept, nameIn, partOf, withoutIn}
+use Rattle.store.specs.Packed.{Entry, entry, textsOf, packed, Kept, nameIn, bytesAt, withoutIn}
 use Rattle.store.specs.declared.Store.{Store}
 use Rattle.store.proofs.Look.{formAt, counts, uses, len-at, size-at, name-at, text-at, text-room, startOf, start-more}
 
@@ -91,16 +91,16 @@ drop-room self name names text rest i start k d h =
 -- the form at a number, out of its slot and its place
 the-form : (self : Store) (name names text : List ℕ) (rest : Store) (i start len size : ℕ) (k : Kept self)
     → Dropping self name names text rest i start → i < self .count → len ≡ getD (self .lens) i 0 → size ≡ getD (self .texts) i 0
-    → entry (nameIn names i len) (partOf text start size) ≡ formAt (k .forms) i
+    → entry (nameIn names i len) (bytesAt text start size) ≡ formAt (k .forms) i
 unfolding entry nameIn
 the-form self name names text rest i start len size k d h l z =
     let first : take len (drop (i * 16) names) ≡ formAt (k .forms) i .name = rw (l, len-at self k i h, d .copy-names) (name-at self k i h) in
-    let second : partOf text start size ≡ formAt (k .forms) i .text = rw (z, size-at self k i h, d .copy-text, d .sum k) (text-at self k i h) in
+    let second : bytesAt text start size ≡ formAt (k .forms) i .text = rw (z, size-at self k i h, d .copy-text, d .sum k) (text-at self k i h) in
     λ j. record { name = first j; text = second j }
 
 pub drop-turns : (self : Store) (name names text : List ℕ) (rest r : Store) (i start len size : ℕ) → Kept self
     → Dropping self name names text rest i start → i < self .count → len ≡ getD (self .lens) i 0 → size ≡ getD (self .texts) i 0
-    → ((es : List Entry) → rest ≡ packed es → r ≡ packed (es ++ withoutIn name (entry (nameIn names i len) (partOf text start size) ∷ [])))
+    → ((es : List Entry) → rest ≡ packed es → r ≡ packed (es ++ withoutIn name (entry (nameIn names i len) (bytesAt text start size) ∷ [])))
     → Dropping self name names text r (i + 1) (start + size)
 drop-turns self name names text rest r i start len size kept d h l z next =
     record {

@@ -6,7 +6,7 @@ use native.Mathlib.Omega.{arith}
 use native.Mathlib.Numerals.{add-one}
 use lib.ListN.{length, take, drop, getD, replicate, length-append, length-map, List·getD-append}
 use lib.Seq.{drop-cons, take-suc, take-append-seam, drop-append-add, take-nil}
-use Rattle.store.specs.Packed.{Entry, entry, slot, textsOf, namesOf, packed, nameIn, partOf, Short, Kept}
+use Rattle.store.specs.Packed.{Entry, entry, slot, textsOf, namesOf, packed, nameIn, bytesAt, Short, Kept}
 use Rattle.store.specs.declared.Store.{Store}
 use Rattle.store.proofs.Packing.{slot-length, texts-more}
 use Rattle.text.specs.Write.{padded}
@@ -111,23 +111,23 @@ size-room self k i start h e = omega (arith, size-at self k i h, text-room self 
 
 -- a form's text at its place, whatever stands behind
 text-stands : (es : List Entry) (more : List ℕ) (i : ℕ) → i < length es
-    → partOf (textsOf es ++ more) (startOf es i) (length (formAt es i .text)) ≡ formAt es i .text
-unfolding textsOf startOf formAt partOf
+    → bytesAt (textsOf es ++ more) (startOf es i) (length (formAt es i .text)) ≡ formAt es i .text
+unfolding textsOf startOf formAt bytesAt
 text-stands [] more i h = absurd (omega arith)
 text-stands (e ∷ es) more zero h = simp append-assoc (take-append-seam (e .text) _)
 text-stands (e ∷ es) more (suc i) h =
     rw (append-assoc, length-append, drop-append-add) (text-stands es more i (omega arith))
 
 pub text-at : (self : Store) (k : Kept self) (i : ℕ) → i < self .count
-    → partOf (self .text) (startOf (k .forms) i) (length (formAt (k .forms) i .text)) ≡ formAt (k .forms) i .text
+    → bytesAt (self .text) (startOf (k .forms) i) (length (formAt (k .forms) i .text)) ≡ formAt (k .forms) i .text
 unfolding packed padded
 text-at self k i h =
-    ap (λ s. partOf (s .text) (startOf (k .forms) i) (length (formAt (k .forms) i .text))) (k .is)
+    ap (λ s. bytesAt (s .text) (startOf (k .forms) i) (length (formAt (k .forms) i .text))) (k .is)
     ∙ text-stands (k .forms) _ i (omega (arith, counts self k))
 
 -- the part of a text between two places
-pub part-between : (text : List ℕ) (start size : ℕ) → take (start + size - start) (drop start text) ≡ partOf text start size
-unfolding partOf
+pub part-between : (text : List ℕ) (start size : ℕ) → take (start + size - start) (drop start text) ≡ bytesAt text start size
+unfolding bytesAt
 part-between text start size = let is : start + size - start ≡ size = omega arith in rw is
 
 -- as many bytes are used as the texts have

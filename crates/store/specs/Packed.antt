@@ -49,8 +49,8 @@ unfoldable pub nameIn : List ℕ → ℕ → ℕ → List ℕ
 nameIn names i len = take len (drop (i * 16) names)
 
 -- so many bytes of a text from a place on
-unfoldable pub partOf : List ℕ → ℕ → ℕ → List ℕ
-partOf text start size = take size (drop start text)
+unfoldable pub bytesAt : List ℕ → ℕ → ℕ → List ℕ
+bytesAt text start size = take size (drop start text)
 
 -- every name has at most sixteen bytes
 abbrev pub Short : List Entry → Type 0

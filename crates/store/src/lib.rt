@@ -4,7 +4,7 @@ ghost use mathlib.Core.Path.{_≡_};
 ghost use mathlib.Core.List.{List, [], _∷_, _++_};
 ghost use lib.ListN.{length};
 ghost use Rattle.paper.specs.Byte.{same};
-ghost use Rattle.store.specs.Packed.{Entry, packed, entry, Kept, findFrom, nameIn, textsOf, withoutIn, partOf, linesOf, listingOf};
+ghost use Rattle.store.specs.Packed.{Entry, packed, entry, Kept, findFrom, nameIn, textsOf, withoutIn, bytesAt, linesOf, listingOf};
 ghost use Rattle.text.specs.Write.{Writes};
 ghost use mathlib.Core.Bool.{_&&_};
 ghost use lib.Dec.{leb, ltb};
@@ -167,7 +167,7 @@ impl Store {
     ) -> Self
         requires { ⌜ (self .count < 8) × (self .used + size ≤ 4096) × (i < 8) × (len ≤ 16) × (start + size ≤ 4096) ⌝ }
         requires { ⌜ (length (now names) ≡ 128) × (length (now text) ≡ 4096) ⌝ }
-        ensures { λ r. ⌜ ((es : List Entry) → self ≡ packed es → r ≡ packed (es ++ withoutIn (now (name .entry)) (entry (nameIn (now (names .entry)) i len) (partOf (now (text .entry)) start size) ∷ []))) ⌝ }
+        ensures { λ r. ⌜ ((es : List Entry) → self ≡ packed es → r ≡ packed (es ++ withoutIn (now (name .entry)) (entry (nameIn (now (names .entry)) i len) (bytesAt (now (text .entry)) start size) ∷ []))) ⌝ }
     {
         let from = i * 16;
         let to = from + len;

@@ -3,7 +3,8 @@ use Prim.Native.Nat.{_-_}
 use native.Mathlib.Omega.{arith}
 use lib.ListN.{length}
 use borrow.Author.Needs.{needs}
-use Rattle.form.proofs.Lines.{Inside, end-inside, lineAt}
+use Rattle.form.specs.Walk.{partOf}
+use Rattle.form.proofs.Lines.{Inside, end-inside}
 use Rattle.form.proofs.Wanted.{Seeking, seek-begins, seek-turns, seek-finds, seek-ends}
 use Rattle.form.proofs.asked.next_asked.Statement.{statement}
 use Rattle.form.proofs.asked.next_asked.Tie as tie
@@ -49,11 +50,11 @@ loop-less : tie.Need-loop-less Inv-loop μ-loop
 loop-less c = let h = inside (c .before .before .before .before) in omega arith
 
 loop-again : tie.Need-loop-again Inv-loop μ-loop
-unfolding lineAt
+unfolding partOf
 loop-again c = search seek-turns
 
 returns : tie.Need-returns Inv-loop μ-loop
-unfolding lineAt
+unfolding partOf
 returns c = search seek-finds
 
 returns-2 : tie.Need-returns-2 Inv-loop μ-loop

@@ -4,7 +4,8 @@ use native.Mathlib.Omega.{arith}
 use lib.ListN.{length}
 use borrow.Author.Needs.{needs}
 use borrow.Author.Tests.{not-true, not-false}
-use Rattle.form.proofs.Lines.{Inside, end-inside, lineAt}
+use Rattle.form.specs.Walk.{partOf}
+use Rattle.form.proofs.Lines.{Inside, end-inside}
 use Rattle.form.proofs.Slots.{agrees-none}
 use Rattle.form.proofs.Broken.{Checking, check-begins, check-turns, check-breaks, check-short, check-ends}
 use Rattle.form.proofs.check.unsound_at.Statement.{statement}
@@ -45,7 +46,7 @@ add-result : tie.Need-add-result Inv-loop μ-loop
 add-result c = omega arith
 
 returns : tie.Need-returns Inv-loop μ-loop
-unfolding lineAt
+unfolding partOf
 returns c = search (check-breaks, not-true)
 
 add-k : tie.Need-add-k Inv-loop μ-loop
@@ -58,7 +59,7 @@ loop-less : tie.Need-loop-less Inv-loop μ-loop
 loop-less c = let h = inside (c .before .before .before .before .before .before) in omega arith
 
 loop-again : tie.Need-loop-again Inv-loop μ-loop
-unfolding lineAt
+unfolding partOf
 loop-again c = search (check-turns, not-false)
 
 add-result-2 : tie.Need-add-result-2 Inv-loop μ-loop

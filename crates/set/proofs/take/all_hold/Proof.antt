@@ -4,8 +4,8 @@ use native.Mathlib.Omega.{arith}
 use lib.ListN.{length}
 use borrow.Author.Needs.{needs}
 use borrow.Author.Tests.{not-true, not-false}
-use Rattle.form.proofs.Lines.{Inside, end-inside, lineAt}
-use Rattle.set.specs.Fill.{partOf}
+use Rattle.form.specs.Walk.{partOf}
+use Rattle.form.proofs.Lines.{Inside, end-inside}
 use Rattle.set.proofs.Holding.{Holding, holds-begins, holds-draws, holds-inside, holds-fits, holds-defines, holds-breaks, holds-end}
 use Rattle.set.proofs.take.all_hold.Statement.{statement}
 use Rattle.set.proofs.take.all_hold.Tie as tie
@@ -23,7 +23,7 @@ inside c = search end-inside
 -- the answer to a definition stands in the answers
 answer : (c : tie.After-line-end2 Inv-loop μ-loop)
     → Inside (c .before .before .before .before .before .before .before .before .before .before .before .args .answers .now) (c .before .before .before .before .before .before .before .before .loop .given) (c .line-end2 .result)
-unfolding lineAt
+unfolding partOf
 answer c = search holds-inside
 
 loop-holds : tie.Need-loop-holds Inv-loop μ-loop
@@ -57,7 +57,7 @@ loop-less : tie.Need-loop-less Inv-loop μ-loop
 loop-less c = let h = inside (c .before .before .before .before) in omega arith
 
 loop-again : tie.Need-loop-again Inv-loop μ-loop
-unfolding lineAt
+unfolding partOf
 loop-again c = search holds-draws
 
 line-end-requires-2 : tie.Need-line-end-requires-2 Inv-loop μ-loop
@@ -73,11 +73,11 @@ part-define-holds-end : tie.Need-part-define-holds-end Inv-loop μ-loop
 part-define-holds-end c = let h = answer c in search needs
 
 define-holds-requires : tie.Need-define-holds-requires Inv-loop μ-loop
-unfolding lineAt partOf
+unfolding partOf
 define-holds-requires c κs = search (needs, holds-fits)
 
 returns : tie.Need-returns Inv-loop μ-loop
-unfolding lineAt partOf
+unfolding partOf
 returns c = search (holds-breaks, not-true)
 
 add-given : tie.Need-add-given Inv-loop μ-loop
@@ -87,7 +87,7 @@ loop-less-2 : tie.Need-loop-less-2 Inv-loop μ-loop
 loop-less-2 c = let h = inside (c .before .before .before .before .before .before .before .before .before) in omega arith
 
 loop-again-2 : tie.Need-loop-again-2 Inv-loop μ-loop
-unfolding lineAt partOf
+unfolding partOf
 loop-again-2 c = search (holds-defines, not-false)
 
 returns-2 : tie.Need-returns-2 Inv-loop μ-loop

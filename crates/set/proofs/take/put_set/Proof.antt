@@ -4,7 +4,8 @@ use native.Mathlib.Omega.{arith}
 use lib.ListN.{length}
 use borrow.Author.Needs.{needs}
 use Rattle.text.proofs.Written.{writes-length}
-use Rattle.form.proofs.Lines.{Inside, end-inside, lineAt}
+use Rattle.form.specs.Walk.{partOf}
+use Rattle.form.proofs.Lines.{Inside, end-inside}
 use Rattle.set.proofs.Putting.{Putting, putting-begins, putting-draws, putting-goes, answer-begins, answer-ends, putting-fits, putting-tells, putting-ends, taking-number, print-room, copies-room, end-room}
 use Rattle.set.proofs.take.put_set.Statement.{statement}
 use Rattle.set.proofs.take.put_set.Tie as tie
@@ -22,7 +23,7 @@ inside c = search end-inside
 -- the answer to a definition stands in the answers, with its LF
 answer : (c : tie.After-line-end2 Inv-loop μ-loop)
     → (c .before .before .before .before .before .before .before .before .loop .given ≤ c .line-end2 .result) × (c .line-end2 .result < length (c .before .before .before .before .before .before .before .before .before .before .before .before .before .before .before .before .before .before .args .answers .now))
-unfolding lineAt
+unfolding partOf
 answer c = (search answer-begins, search answer-ends)
 
 new-requires : tie.Need-new-requires Inv-loop μ-loop
@@ -62,7 +63,7 @@ enum-told : tie.Need-enum-told Inv-loop μ-loop
 enum-told c = search needs
 
 put-line-requires : tie.Need-put-line-requires Inv-loop μ-loop
-unfolding lineAt
+unfolding partOf
 put-line-requires c κs =
     let s = c .before .before .before .before .before .before .before .before .before .before .before .before .before .before .before .before .before in
     let l = c .before .before .before .before .before .before .before .loop in
@@ -73,14 +74,14 @@ loop-less : tie.Need-loop-less Inv-loop μ-loop
 loop-less c = let h = inside (c .before .before .before .before .before .before .before .before) in omega arith
 
 loop-again : tie.Need-loop-again Inv-loop μ-loop
-unfolding lineAt
+unfolding partOf
 loop-again c = search putting-goes
 
 line-end-requires-2 : tie.Need-line-end-requires-2 Inv-loop μ-loop
 line-end-requires-2 c κs = search needs
 
 with-value-requires : tie.Need-with-value-requires Inv-loop μ-loop
-unfolding lineAt
+unfolding partOf
 with-value-requires c κs =
     let h = answer c in
     let few : c .before .before .before .before .before .before .before .before .before .before .before .before .before .before .before .before .before .before .args .i ≤ 65535 = search taking-number in
@@ -93,7 +94,7 @@ loop-less-2 : tie.Need-loop-less-2 Inv-loop μ-loop
 loop-less-2 c = let h = inside (c .before .before .before .before .before .before .before) in omega arith
 
 loop-again-2 : tie.Need-loop-again-2 Inv-loop μ-loop
-unfolding lineAt
+unfolding partOf
 loop-again-2 c = search putting-tells
 
 slice-aggregate-put-all-2 : tie.Need-slice-aggregate-put-all-2 Inv-loop μ-loop

@@ -2,7 +2,7 @@
 use mathlib.Core.Path.{_≡_}
 use lib.ListN.{length}
 use borrow.Author.Needs.{needs}
-use Rattle.set.specs.Fill.{partOf}
+use Rattle.form.specs.Walk.{partOf}
 use Rattle.set.proofs.Holding.{counter-fits}
 use Rattle.set.proofs.Giving.{counter-slot, variable-slot, nine-small, gives-counter, gives-variable}
 use Rattle.set.proofs.take.with_value.Statement.{statement}

@@ -4,14 +4,14 @@ use mathlib.Core.Bool.{true, false}
 use mathlib.Core.List.{List, [], _∷_, _++_}
 use Prim.Native.Nat.{ℕ, _+_, _≤_, _<_}
 use native.Mathlib.Omega.{arith}
-use native.Mathlib.Numerals.{add-one}
 use lib.ListN.{length, take, set, getD, length-append, length-take, drop-of-length-le}
-use lib.Seq.{drop-cons, take-all, take-append-le}
+use lib.Seq.{take-all, take-append-le}
 use borrow.Author.Tests.{ne-eqb}
 use Rattle.paper.specs.Byte.{if_then_else_}
 use Rattle.paper.specs.Line.{isDropped}
 use Rattle.paper.proofs.Law.{if-true, if-false}
 use Rattle.text.specs.Place.{from}
+use Rattle.text.proofs.Quote.{from-cons}
 use Rattle.text.specs.Write.{padded}
 use Rattle.text.proofs.Padded.{padded-set}
 use Rattle.intake.specs.Waiting.{held, Piece, line, waits, feed, Feeds}
@@ -38,14 +38,14 @@ held-more w b h =
     λ i. record { bytes = bytes i; len = len i }
 
 -- a byte joins those that wait, or is let go where 257 wait already
-pub joins : (self : Intake) (b : ℕ) → self .len < 257
+joins : (self : Intake) (b : ℕ) → self .len < 257
     → (w : List ℕ) → self ≡ held w → record { bytes = set (self .bytes) (self .len) b; len = self .len + 1 } ≡ held (w ++ (b ∷ []))
 unfolding held
 joins self b h w e =
     let few : length w < 257 = omega (arith, kept-len self w e, length-take 257 w) in
     rw e (held-more w b few)
 
-pub stays : (self : Intake) (b : ℕ) → 257 ≤ self .len → (w : List ℕ) → self ≡ held w → self ≡ held (w ++ (b ∷ []))
+stays : (self : Intake) (b : ℕ) → 257 ≤ self .len → (w : List ℕ) → self ≡ held w → self ≡ held (w ++ (b ∷ []))
 unfolding held
 stays self b h w e =
     let many : 257 ≤ length w = omega (arith, kept-len self w e, length-take 257 w) in
@@ -56,11 +56,6 @@ pub record Going (input : List ℕ) (whole : Piece) (intake : Intake) (i : ℕ) 
   pub waiting : List ℕ
   pub is : intake ≡ held waiting
   pub left : whole ≡ feed waiting (from input i)
-
--- the input from a place on, by the byte there
-ahead : (input : List ℕ) (i : ℕ) → i < length input → from input i ≡ getD input i 0 ∷ from input (i + 1)
-unfolding from
-ahead input i h = rw (add-one) (drop-cons input i 0 h)
 
 -- so it is whatever waited at the start
 pub record Goes (input : List ℕ) (at : ℕ) (first intake : Intake) (i : ℕ) : Type 0 where
@@ -76,7 +71,7 @@ unfolding feed Feeds if_then_else_
 goes-line input at first intake i g h b w e =
     let now′ = g .go w e in
     let is : feed w (from input at) ≡ line (now′ .waiting) (from input (i + 1)) =
-    now′ .left ∙ rw (ahead input i h, b) in
+    now′ .left ∙ rw (from-cons input i h, b) in
     rw is (now′ .is, refl, refl, omega arith)
 
 -- a byte is dropped
@@ -90,7 +85,7 @@ drops input at first intake i g h n d =
           record {
             waiting = now′ .waiting;
             is = now′ .is;
-            left = now′ .left ∙ rw (ahead input i h) (if-false _ _ _ (ne-eqb (getD input i 0) 10 n) ∙ if-true _ _ _ d);
+            left = now′ .left ∙ rw (from-cons input i h) (if-false _ _ _ (ne-eqb (getD input i 0) 10 n) ∙ if-true _ _ _ d);
           };
     }
 
@@ -104,8 +99,8 @@ pub goes-end-sign : (input : List ℕ) (at : ℕ) (first intake : Intake) (i : �
 unfolding isDropped
 goes-end-sign input at first intake i g h n b = drops input at first intake i g h n (rw b)
 
--- a byte joins the line
-pub goes-on : (input : List ℕ) (at : ℕ) (first intake r : Intake) (i : ℕ) → Goes input at first intake i → i < length input
+-- a byte goes behind those that wait
+goes-on : (input : List ℕ) (at : ℕ) (first intake r : Intake) (i : ℕ) → Goes input at first intake i → i < length input
     → (getD input i 0 ≡ 10 → ⊥) → (getD input i 0 ≡ 13 → ⊥) → (getD input i 0 ≡ 26 → ⊥)
     → ((w : List ℕ) → intake ≡ held w → r ≡ held (w ++ (getD input i 0 ∷ []))) → Goes input at first r (i + 1)
 unfolding feed isDropped
@@ -117,11 +112,23 @@ goes-on input at first intake r i g h n m k more =
             waiting = now′ .waiting ++ (getD input i 0 ∷ []);
             is = more (now′ .waiting) (now′ .is);
             left = now′ .left
-                ∙ rw (ahead input i h)
+                ∙ rw (from-cons input i h)
                 (if-false _ _ _ (ne-eqb (getD input i 0) 10 n)
                 ∙ if-false _ _ _ (rw (ne-eqb (getD input i 0) 13 m, ne-eqb (getD input i 0) 26 k)));
           };
     }
+
+-- it is stored
+pub goes-joins : (input : List ℕ) (at : ℕ) (first : Intake) (bytes : List ℕ) (len i : ℕ) → Goes input at first (record { bytes = bytes; len = len }) i → i < length input
+    → (getD input i 0 ≡ 10 → ⊥) → (getD input i 0 ≡ 13 → ⊥) → (getD input i 0 ≡ 26 → ⊥) → len < 257
+    → Goes input at first (record { bytes = set bytes len (getD input i 0); len = len + 1 }) (i + 1)
+goes-joins input at first bytes len i g h n m k few = goes-on input at first _ _ i g h n m k (joins (record { bytes = bytes; len = len }) (getD input i 0) few)
+
+-- or 257 wait already
+pub goes-full : (input : List ℕ) (at : ℕ) (first : Intake) (bytes : List ℕ) (len i : ℕ) → Goes input at first (record { bytes = bytes; len = len }) i → i < length input
+    → (getD input i 0 ≡ 10 → ⊥) → (getD input i 0 ≡ 13 → ⊥) → (getD input i 0 ≡ 26 → ⊥) → 257 ≤ len
+    → Goes input at first (record { bytes = bytes; len = len }) (i + 1)
+goes-full input at first bytes len i g h n m k many = goes-on input at first _ _ i g h n m k (stays (record { bytes = bytes; len = len }) (getD input i 0) many)
 
 -- the piece ends
 pub goes-waits : (input : List ℕ) (at : ℕ) (first intake : Intake) (i : ℕ) → Goes input at first intake i → length input ≤ i

@@ -2,7 +2,7 @@
 // its refusal needs.
 ghost use Prim.Native.Nat.{ℕ};
 ghost use mathlib.Core.Path.{_≡_};
-ghost use mathlib.Core.List.{List, [], _∷_, _++_};
+ghost use mathlib.Core.List.{List, []};
 ghost use Rattle.text.specs.Place.{from};
 ghost use Rattle.intake.specs.Waiting.{held, Feeds, feed};
 
@@ -30,31 +30,19 @@ impl Intake {
         }
     }
 
-    // One byte more of the line.
-    fn with(self, b: u8) -> Self
-        ensures { λ r. ⌜ ((w : List ℕ) → self ≡ held w → r ≡ held (w ++ (b ∷ []))) ⌝ }
-    {
-        let n = self.len;
-        if n < 257 {
-            let mut bytes = self.bytes;
-            bytes[n] = b;
-            return Intake { bytes, len: n + 1 };
-        }
-        self
-    }
-
     // Takes input from a place on, up to the end of a line or of the piece.
     pub fn feed(self, input: &[u8], at: usize) -> Fed
         ensures { λ r. ⌜ ((w : List ℕ) → self ≡ held w → Feeds (now (input .entry)) (feed w (from (now (input .entry)) at)) r) ⌝ }
     {
-        let mut intake = self;
+        let mut bytes = self.bytes;
+        let mut len = self.len;
         let mut i = at;
         while i < input.len() {
             let b = input[i];
             i += 1;
             if b == 10 {
                 return Fed {
-                    intake,
+                    intake: Intake { bytes, len },
                     next: i,
                     ended: true,
                 };
@@ -65,10 +53,13 @@ impl Intake {
             if b == 26 {
                 continue;
             }
-            intake = intake.with(b);
+            if len < 257 {
+                bytes[len] = b;
+                len += 1;
+            }
         }
         Fed {
-            intake,
+            intake: Intake { bytes, len },
             next: input.len(),
             ended: false,
         }

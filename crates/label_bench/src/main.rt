@@ -2,9 +2,11 @@
 // buffers of 64 KiB, and has written out all it has to say before it waits for more input.
 ghost use Prim.Native.Nat.{_+_, _^_, _<_, _≤_};
 ghost use mathlib.Core.Path.{_≡_};
+ghost use mathlib.Core.Bool.{true};
 ghost use lib.ListN.{length};
-ghost use Rattle.bench.specs.Call.{Reached};
-ghost use Rattle.label_bench.specs.Said.{Stands};
+ghost use Rattle.paper.specs.Program.{afterTakes};
+ghost use Rattle.bench.specs.Call.{packedBench, Reached};
+ghost use Rattle.label_bench.specs.Said.{Stands, Standing, At, Turned, after};
 
 mod call;
 mod report;
@@ -30,16 +32,23 @@ struct Run {
     going: bool,
 }
 
-// A run before its first line.
-fn begun(going: bool) -> Run
-    ensures { λ r. ⌜ Stands r × (r .lines ≡ 0) ⌝ }
+// A run that stands there.
+fn stand(bench: Bench, intake: Intake, lines: usize, going: bool) -> Run
+    ensures { λ r. ⌜ (r .bench ≡ bench) × (r .intake ≡ intake) × (r .lines ≡ lines) × (r .going ≡ going) ⌝ }
 {
     Run {
-        bench: Bench::new(),
-        intake: Intake::new(),
-        lines: 0,
+        bench,
+        intake,
+        lines,
         going,
     }
+}
+
+// A run before its first line.
+fn begun(going: bool) -> Run
+    ensures { λ r. ⌜ Stands r × (r .lines ≡ 0) × (r .going ≡ going) ⌝ }
+{
+    stand(Bench::new(), Intake::new(), 0, going)
 }
 
 // What the taking of sets leaves: the bench, where the bytes that wait end, and whether the run goes on.
@@ -55,6 +64,7 @@ fn take_sets(bench: Bench, sets: usize, out: &mut [u8], at: usize) -> Taken
     requires { ⌜ (at ≤ length (now out)) × (10291 ≤ length (now out)) ⌝ }
     ensures { λ r. ⌜ Reached (r .bench) ⌝ }
     ensures { λ r. ⌜ (r .out ≤ length (now (out .entry))) × (length (now (out .exit)) ≡ length (now (out .entry))) ⌝ }
+    ensures { λ r. ⌜ ((b : Reached bench) → r .going ≡ true → r .bench ≡ packedBench (afterTakes sets (b .paper))) ⌝ }
 {
     let mut bench = bench;
     let mut end = at;
@@ -86,6 +96,7 @@ fn obey(run: Run, input: &[u8], out: &mut [u8], err: &mut [u8]) -> Run
     requires { ⌜ run .lines + length (now input) < 2 ^ 64 ⌝ }
     ensures { λ r. ⌜ Stands r ⌝ }
     ensures { λ r. ⌜ r .lines ≤ run .lines + length (now (input .entry)) ⌝ }
+    ensures { λ r. ⌜ ((s : Standing) → At (run .bench) (run .intake) (run .lines) s → r .going ≡ true → At (r .bench) (r .intake) (r .lines) (after s (now (input .entry)))) ⌝ }
 {
     let mut bench = run.bench;
     let mut intake = run.intake;
@@ -121,12 +132,7 @@ fn obey(run: Run, input: &[u8], out: &mut [u8], err: &mut [u8]) -> Run
         }
     }
     let going = write_both(&out[..a], &err[..b]);
-    Run {
-        bench,
-        intake,
-        lines,
-        going,
-    }
+    stand(bench, intake, lines, going)
 }
 
 // Reads once, and obeys what has come.
@@ -136,6 +142,7 @@ fn turn(run: Run, input: &mut [u8], out: &mut [u8], err: &mut [u8]) -> Run
     requires { ⌜ run .lines + length (now input) < 2 ^ 64 ⌝ }
     ensures { λ r. ⌜ Stands r ⌝ }
     ensures { λ r. ⌜ r .lines ≤ run .lines + length (now (input .entry)) ⌝ }
+    ensures { λ r. ⌜ ((s : Standing) → At (run .bench) (run .intake) (run .lines) s → r .going ≡ true → Turned s (now (input .exit)) r) ⌝ }
 {
     let got = libc::read(STDIN_FILENO, input);
     if got <= 0 {

@@ -24,7 +24,7 @@ run-all-spec =
     (λ c. search needs)
     (λ c. omega arith)
     (λ c. omega arith)
-    (λ c. reading-turns (c .before .before .before .before .before .before .before .before .before .before .before .before .before .loop .inv) _ _ _ _ (search needs) (c .before .before .before .before .before .before .before .before .turn .ensures .0) (c .before .before .before .before .before .before .before .before .turn .ensures .1) (search needs) (search needs) (search needs))
+    (λ c. reading-turns (c .before .before .before .before .before .before .before .before .before .before .before .before .before .loop .inv) _ _ _ _ (search needs) (c .before .before .before .before .before .before .before .before .turn .ensures .0) (c .before .before .before .before .before .before .before .before .turn .ensures .1 .0) (search needs) (search needs) (search needs))
     (λ c. search needs)
     (λ c. search needs)
     (λ c. search needs)

@@ -19,18 +19,18 @@ use Rattle.intake.specs.declared.Intake.{Intake}
 use Rattle.intake.specs.declared.Fed.{Fed}
 
 -- a byte that does not end a line
-abbrev inside : ℕ → Bool
+abbrev pub inside : ℕ → Bool
 inside b = not (eqb b lf)
 
 -- a text without LF, before an LF, is the first line
-cut-at : (w x : List ℕ) → every inside w ≡ true → cut (w ++ (lf ∷ x)) ≡ w ∷ cut x
+pub cut-at : (w x : List ℕ) → every inside w ≡ true → cut (w ++ (lf ∷ x)) ≡ w ∷ cut x
 unfolding cut infront every if_then_else_
 cut-at [] x e = refl
 cut-at (b ∷ w) x e =
     rw (not-true (eqb b lf) (and-left (inside b) (every inside w) e), cut-at w x (and-right (inside b) (every inside w) e))
 
 -- and without an LF there is no line
-cut-none : (w : List ℕ) → every inside w ≡ true → cut w ≡ []
+pub cut-none : (w : List ℕ) → every inside w ≡ true → cut w ≡ []
 unfolding cut infront every if_then_else_
 cut-none [] e = refl
 cut-none (b ∷ w) e =
@@ -46,21 +46,23 @@ cuts-like : (w v s t : List ℕ) (p : Piece) → w ++ kept s ≡ v ++ kept t →
 cuts-like w v s t (line u rest) e c = rw (← e) c
 cuts-like w v s t (waits u) e c = rw (← e) c
 
-kept-other : (b : ℕ) (s : List ℕ) → isDropped b ≡ false → kept (b ∷ s) ≡ b ∷ kept s
+-- a byte that is not dropped stays
+pub kept-other : (b : ℕ) (s : List ℕ) → isDropped b ≡ false → kept (b ∷ s) ≡ b ∷ kept s
 unfolding kept
 kept-other b s e = if-false _ _ _ e
 
-kept-dropped : (b : ℕ) (s : List ℕ) → isDropped b ≡ true → kept (b ∷ s) ≡ kept s
+-- and one that is does not
+pub kept-dropped : (b : ℕ) (s : List ℕ) → isDropped b ≡ true → kept (b ∷ s) ≡ kept s
 unfolding kept
 kept-dropped b s e = if-true _ _ _ e
 
 -- LF is not dropped
-lf-stays : isDropped lf ≡ false
+pub lf-stays : isDropped lf ≡ false
 unfolding isDropped
 lf-stays = refl
 
 -- one byte more before the end of the line
-inside-more : (w : List ℕ) (b : ℕ) → every inside w ≡ true → eqb b lf ≡ false → every inside (w ++ (b ∷ [])) ≡ true
+pub inside-more : (w : List ℕ) (b : ℕ) → every inside w ≡ true → eqb b lf ≡ false → every inside (w ++ (b ∷ [])) ≡ true
 unfolding every
 inside-more w b e n = every-append inside w (b ∷ []) ∙ rw (e, n)
 

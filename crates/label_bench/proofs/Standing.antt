@@ -2,12 +2,13 @@
 use Prim.Native.Nat.{ℕ, zero, suc, _+_, _≤_}
 use mathlib.Core.Path.{_≡_, refl, sym, _∙_, ap}
 use mathlib.Core.Bool.{true, false, false≢true}
-use mathlib.Core.List.{List, [], _∷_, _++_}
+use mathlib.Core.List.{List, [], _∷_, _++_, append-assoc, append-nil}
 use lib.ListN.{length, drop-of-length-le}
 use lib.Dec.{eqb}
+use borrow.Author.Tests.{eqb-true}
 use native.Mathlib.Omega.{arith}
-use Rattle.paper.specs.Byte.{if_then_else_}
-use Rattle.paper.specs.Line.{lf, isDropped}
+use Rattle.paper.specs.Byte.{if_then_else_, every}
+use Rattle.paper.specs.Line.{lf, isDropped, kept, cut}
 use Rattle.paper.specs.Bench as P
 use Rattle.paper.specs.Bench.{hear}
 use Rattle.paper.specs.State.{Led, hearing, taking}
@@ -15,13 +16,15 @@ use Rattle.paper.specs.Program.{enough, toTake, afterTakes}
 use Rattle.paper.proofs.Test.{either}
 use Rattle.line.specs.View.{width}
 use Rattle.text.specs.Place.{from}
+use Rattle.text.specs.Write.{Writes}
 use Rattle.text.proofs.Written.{writes-length}
 use Rattle.intake.specs.Waiting.{held, Piece, line, waits, feed, Feeds}
 use Rattle.intake.specs.declared.Intake.{Intake}
 use Rattle.intake.specs.declared.Fed.{Fed}
+use Rattle.intake.proofs.Cutting.{inside, cut-at, cut-none, kept-other, kept-dropped, lf-stays, inside-more}
 use Rattle.bench.specs.Call.{packedBench, Reached}
 use Rattle.bench.specs.declared.Bench.{Bench}
-use Rattle.label_bench.specs.Said.{Waits, Says, Reports, Standing, obeyed, step, after, At}
+use Rattle.label_bench.specs.Said.{Waits, Says, Standing, obeyed, step, after, throughLines, At}
 use Rattle.label_bench.specs.declared.call.Called.{Called}
 use Rattle.label_bench.specs.declared.Taken.{Taken}
 
@@ -36,13 +39,9 @@ led-obeyed : {b : P.Bench} (s : List ℕ) → Led width b → Led width (obeyed 
 unfolding obeyed
 led-obeyed s l = led-takes _ (hearing l enough s)
 
--- a call writes within a buffer that keeps its size
-pub says-inside : {o : P.Outcome} {old : List ℕ} {at : ℕ} {new : List ℕ} {r : Called} → Says o old at new r → (r .out ≤ length old) × (length new ≡ length old)
-says-inside {old = old} {at = at} {new = new} {r = r} w = (w .writes .room, writes-length old at _ new (r .out) (w .writes))
-
--- and so it does where it reports
-pub reports-inside : {o : P.Outcome} {k : ℕ} {old : List ℕ} {at : ℕ} {new : List ℕ} {r : Called} → Reports o k old at new r → (r .err ≤ length old) × (length new ≡ length old)
-reports-inside {old = old} {at = at} {new = new} {r = r} w = (w .writes .room, writes-length old at _ new (r .err) (w .writes))
+-- bytes are written within a buffer that keeps its size
+pub writes-inside : (old : List ℕ) (at : ℕ) (s new : List ℕ) (next : ℕ) → Writes old at s new next → (next ≤ length old) × (length new ≡ length old)
+writes-inside old at s new next w = (w .room, writes-length old at s new next w)
 
 -- a line was heard, and the bench says how many sets are left
 module _ (bench : Bench) (intake : Intake) (r : Called) (out : List ℕ) (at : ℕ) (new : List ℕ) (left : ℕ)
@@ -85,6 +84,29 @@ after-feed b n (c ∷ s) w = go (after-feed b n s w) (after-feed b n s (w ++ (c 
     go dropped joined = either (eqb c lf)
         (λ y. rw y refl)
         (λ m. either (isDropped c) (λ d. rw (m, d) dropped) (λ k. rw (m, k) joined))
+
+-- of no bytes none is kept
+kept-none : kept [] ≡ []
+unfolding kept
+kept-none = refl
+
+-- the bench that input leads to is the one that its lines lead to, as the paper cuts them
+pub after-lines : (b : P.Bench) (n : ℕ) (s w : List ℕ) → every inside w ≡ true → after (record { bench = b; wait = w; lines = n }) s .bench ≡ throughLines b (cut (w ++ kept s))
+unfolding after step throughLines if_then_else_ every
+after-lines b n [] w e = rw (kept-none, append-nil w, cut-none w e)
+after-lines b n (c ∷ s) w e =
+    either (eqb c lf)
+    (λ y.
+    let turn : after (record { bench = b; wait = w; lines = n }) (c ∷ s) ≡ after (record { bench = obeyed b w; wait = []; lines = n + 1 }) s = rw y refl in
+    let first : cut (w ++ kept (c ∷ s)) ≡ w ∷ cut (kept s) = rw (eqb-true c lf y, kept-other lf s lf-stays) (cut-at w (kept s) e) in
+    ap (λ z. z .bench) turn ∙ after-lines (obeyed b w) (n + 1) s [] refl ∙ ap (throughLines b) (sym first))
+    (λ m. either (isDropped c)
+    (λ d.
+    let turn : after (record { bench = b; wait = w; lines = n }) (c ∷ s) ≡ after (record { bench = b; wait = w; lines = n }) s = rw (m, d) refl in
+    ap (λ z. z .bench) turn ∙ after-lines b n s w e ∙ rw (kept-dropped c s d))
+    (λ k.
+    let turn : after (record { bench = b; wait = w; lines = n }) (c ∷ s) ≡ after (record { bench = b; wait = w ++ (c ∷ []); lines = n }) s = rw (m, k) refl in
+    ap (λ z. z .bench) turn ∙ after-lines b n s (w ++ (c ∷ [])) (inside-more w c e m) ∙ rw (kept-other c s k, append-assoc w (c ∷ []) (kept s))))
 
 -- a run that stands somewhere, from which the input from a place on leads where the whole of it leads from the start
 pub record Onward (first : Standing) (input : List ℕ) (bench : Bench) (intake : Intake) (lines at : ℕ) : Type 0 where

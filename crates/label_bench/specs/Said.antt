@@ -60,6 +60,11 @@ unfoldable pub after : Standing → List ℕ → Standing
 after s [] = s
 after s (b ∷ input) = after (step s b) input
 
+-- the bench that lines lead to, one after the other
+unfoldable pub throughLines : P.Bench → List (List ℕ) → P.Bench
+throughLines b [] = b
+throughLines b (s ∷ ss) = throughLines (obeyed b s) ss
+
 -- the memory of a run that stands there, with a bench that calls lead to
 pub record At (bench : Bench) (intake : Intake) (lines : ℕ) (s : Standing) : Type 0 where
   pub led : Led width (s .bench)

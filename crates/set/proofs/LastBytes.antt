@@ -5,6 +5,7 @@ use mathlib.Core.List.{List, [], _∷_, _++_}
 use Prim.Native.Nat.{ℕ, _+_, _-_, _*_, _/_, _%_, _≤_, _<_}
 use native.Mathlib.Omega.{arith}
 use lib.ListN.{length, getD, length-append}
+use lib.Dec.{eqb}
 use borrow.Author.Tests.{leb-true}
 use Rattle.paper.specs.Byte.{bytes}
 use Rattle.paper.specs.Command as P
@@ -15,7 +16,7 @@ use Rattle.paper.proofs.Test.{Passed}
 use Rattle.line.specs.View.{width}
 use Rattle.set.specs.Ending.{valueEnding, endingOf}
 use Rattle.set.specs.declared.ending.Ending.{Ending}
-use Rattle.set.specs.declared.ending.Ending.the-variants.{Whole, Counter, Variable}
+use Rattle.set.specs.declared.ending.Ending.the-variants.{Whole}
 use Rattle.set.proofs.Naming.{back, back-append, mark, Names, Naming, plain, named, naming}
 
 -- a counter is one of ten, a variable one of sixteen
@@ -54,22 +55,14 @@ record Behind (b : ℕ) (value : P.Value) (r : Ending) : Type 0 where
   marked : b ≡ mark opens
   ending : valueEnding value opens ≡ r
 
--- behind a comma it does, and behind another byte it does not
-behind-comma : (b : ℕ) (value : P.Value) (r : Ending) → Behind b value r → b ≡ 44 → valueEnding value true ≡ r
+-- the byte is a comma where it does
+behind-test : (b : ℕ) (value : P.Value) (r : Ending) → Behind b value r → valueEnding value (eqb b 44) ≡ r
 unfolding mark
-behind-comma b value r k e = go (k .opens) (k .marked) (k .ending)
+behind-test b value r k = go (k .opens) (k .marked) (k .ending)
   where
-    go : (opens : Bool) → b ≡ mark opens → valueEnding value opens ≡ r → valueEnding value true ≡ r
-    go true m h = h
-    go false m h = absurd (omega (arith, m))
-
-behind-quote : (b : ℕ) (value : P.Value) (r : Ending) → Behind b value r → (b ≡ 44 → ⊥) → valueEnding value false ≡ r
-unfolding mark
-behind-quote b value r k e = go (k .opens) (k .marked) (k .ending)
-  where
-    go : (opens : Bool) → b ≡ mark opens → valueEnding value opens ≡ r → valueEnding value false ≡ r
-    go true m h = absurd (e m)
-    go false m h = h
+    go : (opens : Bool) → b ≡ mark opens → valueEnding value opens ≡ r → valueEnding value (eqb b 44) ≡ r
+    go true m h = rw m h
+    go false m h = rw m h
 
 module _ (line : List ℕ) (d : P.Draw) (e : line ≡ lineText (P.draw d)) (g : allOf (drawRanges width d) ≡ true) where
   -- a line that names a value is a text of 4 bytes or more, and does not end in a quote
@@ -115,13 +108,8 @@ module _ (line : List ℕ) (d : P.Draw) (e : line ≡ lineText (P.draw d)) (g : 
             let last = variable-bytes line (65 ∷ k .front) (mark opens) m (e ∙ k .is) in
             absurd (omega (arith, last .2, variable-few m (k .range g)))
 
-    pub counter-alone : (n : ℕ) → back line 2 ≡ 67 → back line 3 ≡ 44 → n ≡ back line 1 - 48 → Counter n 2 true ≡ endingOf d
-    unfolding valueEnding
-    counter-alone n c b h = behind-comma _ (P.counter n) _ (counter-behind n c h) b
-
-    pub counter-joined : (n : ℕ) → back line 2 ≡ 67 → (back line 3 ≡ 44 → ⊥) → n ≡ back line 1 - 48 → Counter n 3 false ≡ endingOf d
-    unfolding valueEnding
-    counter-joined n c b h = behind-quote _ (P.counter n) _ (counter-behind n c h) b
+    pub counter-ends : (n : ℕ) (r : Ending) → back line 2 ≡ 67 → n ≡ back line 1 - 48 → r ≡ valueEnding (P.counter n) (eqb (back line 3) 44) → r ≡ endingOf d
+    counter-ends n r c h is = is ∙ behind-test _ (P.counter n) _ (counter-behind n c h)
 
     -- and else in a variable
     variable-behind : (tens ones : ℕ) → (back line 2 ≡ 67 → ⊥) → tens ≡ back line 2 - 48 → ones ≡ back line 1 - 48 → Behind (back line 4) (P.variable (tens * 10 + ones)) (endingOf d)
@@ -135,10 +123,5 @@ module _ (line : List ℕ) (d : P.Draw) (e : line ≡ lineText (P.draw d)) (g : 
             let same : tens * 10 + ones ≡ m = omega (arith, last .1, last .2) in
             record { opens = opens; marked = last .3; ending = ap (λ x. valueEnding (P.variable x) opens) same ∙ sym (k .ending) }
 
-    pub variable-alone : (tens ones : ℕ) → (back line 2 ≡ 67 → ⊥) → back line 4 ≡ 44 → tens ≡ back line 2 - 48 → ones ≡ back line 1 - 48 → Variable (tens * 10 + ones) 3 true ≡ endingOf d
-    unfolding valueEnding
-    variable-alone tens ones c b t o = behind-comma _ (P.variable (tens * 10 + ones)) _ (variable-behind tens ones c t o) b
-
-    pub variable-joined : (tens ones : ℕ) → (back line 2 ≡ 67 → ⊥) → (back line 4 ≡ 44 → ⊥) → tens ≡ back line 2 - 48 → ones ≡ back line 1 - 48 → Variable (tens * 10 + ones) 4 false ≡ endingOf d
-    unfolding valueEnding
-    variable-joined tens ones c b t o = behind-quote _ (P.variable (tens * 10 + ones)) _ (variable-behind tens ones c t o) b
+    pub variable-ends : (tens ones : ℕ) (r : Ending) → (back line 2 ≡ 67 → ⊥) → tens ≡ back line 2 - 48 → ones ≡ back line 1 - 48 → r ≡ valueEnding (P.variable (tens * 10 + ones)) (eqb (back line 4) 44) → r ≡ endingOf d
+    variable-ends tens ones r c t o is = is ∙ behind-test _ (P.variable (tens * 10 + ones)) _ (variable-behind tens ones c t o)

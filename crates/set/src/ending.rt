@@ -6,7 +6,7 @@ ghost use Rattle.paper.specs.Command as P;
 ghost use Rattle.paper.specs.Command.{drawRanges, allOf};
 ghost use Rattle.paper.specs.Write.{lineText};
 ghost use Rattle.line.specs.View.{width};
-ghost use Rattle.set.specs.Ending.{endingOf};
+ghost use Rattle.set.specs.Ending.{valueEnding, endingOf};
 
 // How a line that draws goes into a set: whole, or with a value in place of its last bytes, `tail` of them; a value that
 // stands alone still needs its opening quote.
@@ -25,6 +25,26 @@ fn digit_of(b: u8) -> usize
         return 0;
     }
     (b - 48) as usize
+}
+
+// A line that ends in a counter.
+fn counter_ending(n: usize, opens: bool) -> Ending
+    ensures { λ r. ⌜ r ≡ valueEnding (P.counter n) opens ⌝ }
+{
+    if opens {
+        return Ending::Counter { n, tail: 2, opens };
+    }
+    Ending::Counter { n, tail: 3, opens }
+}
+
+// A line that ends in a variable.
+fn variable_ending(n: usize, opens: bool) -> Ending
+    ensures { λ r. ⌜ r ≡ valueEnding (P.variable n) opens ⌝ }
+{
+    if opens {
+        return Ending::Variable { n, tail: 3, opens };
+    }
+    Ending::Variable { n, tail: 4, opens }
 }
 
 // The ending of a line that draws: a text in normal form ends in its string's quote, in `Cn` or in `Vnn`, and a value that
@@ -46,30 +66,7 @@ pub fn ending_of(line: &[u8]) -> Ending
     let ones = digit_of(last);
     let second = line[size - 2];
     if second == 67 {
-        if line[size - 3] == 44 {
-            return Ending::Counter {
-                n: ones,
-                tail: 2,
-                opens: true,
-            };
-        }
-        return Ending::Counter {
-            n: ones,
-            tail: 3,
-            opens: false,
-        };
+        return counter_ending(ones, line[size - 3] == 44);
     }
-    let number = digit_of(second) * 10 + ones;
-    if line[size - 4] == 44 {
-        return Ending::Variable {
-            n: number,
-            tail: 3,
-            opens: true,
-        };
-    }
-    Ending::Variable {
-        n: number,
-        tail: 4,
-        opens: false,
-    }
+    variable_ending(digit_of(second) * 10 + ones, line[size - 4] == 44)
 }

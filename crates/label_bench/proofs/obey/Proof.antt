@@ -1,5 +1,5 @@
 -- Each turn takes in a line, hears it and takes its sets.
-use Prim.Native.Nat.{_-_, _≤_}
+use Prim.Native.Nat.{_-_}
 use mathlib.Core.Path.{_≡_, sym, _∙_}
 use mathlib.Core.Bool.{true, false, false≢true}
 use native.Mathlib.Omega.{arith}
@@ -8,7 +8,7 @@ use lib.ListN.{length}
 use lib.Seq.{length-take-le}
 use borrow.Author.Tests.{not-true, not-false}
 use Rattle.label_bench.proofs.Coming.{Comes, comes}
-use Rattle.label_bench.proofs.Standing.{says-inside, reports-inside, obeyed-heard, obeyed-taken, onward-ends}
+use Rattle.label_bench.proofs.Standing.{writes-inside, obeyed-heard, obeyed-taken, onward-ends}
 use Rattle.label_bench.proofs.Running.{stands-there, at-there, Obeying, obeying-begins, obeying-waits, obeying-line}
 use Rattle.label_bench.proofs.obey.Statement.{statement}
 use Rattle.label_bench.proofs.obey.Tie as tie
@@ -74,8 +74,8 @@ loop-again-2 c =
     let l = c .before .before .before .before .before .before .before .before in
     let inv = piece l .before .before .loop .inv in
     let told = l .hear-line .ensures in
-    let said = says-inside (told .1 .0 (inv .reached) (came l .waits)) in
-    let reported = reports-inside (told .1 .1 (inv .reached) (came l .waits)) in
+    let said = writes-inside _ _ _ _ _ (told .1 .0 (inv .reached) (came l .waits) .writes) in
+    let reported = writes-inside _ _ _ _ _ (told .1 .1 (inv .reached) (came l .waits) .writes) in
     obeying-line inv (piece l .feed .result) (piece l .feed .ensures) (ended l) _ _ _ _ _ (told .0) said reported
     (λ b w. obeyed-heard _ _ _ _ _ _ _ (told .1 .0) (c .before .sets-left .ensures) (search needs) b w) (c .before .before .new .result) (c .before .before .new .ensures)
 
@@ -84,7 +84,7 @@ take-sets-requires c κs =
     let l = c .before .before .before .before .before .before .before .before .before in
     let inv = piece l .before .before .loop .inv in
     let told = l .hear-line .ensures in
-    let said = says-inside (told .1 .0 (inv .reached) (came l .waits)) in
+    let said = writes-inside _ _ _ _ _ (told .1 .0 (inv .reached) (came l .waits) .writes) in
     (told .0, (omega (arith, said .0, said .1), omega (arith, said .1, inv .outSize, inv .room .0)))
 
 same-length-3 : tie.Need-same-length-3 Inv-loop μ-loop
@@ -92,7 +92,7 @@ same-length-3 c =
     let l = c .before .before .before .before .before .before .before .before .before .before .before .before .before .before .before .before in
     let inv = piece l .before .before .loop .inv in
     let told = l .hear-line .ensures in
-    let said = says-inside (told .1 .0 (inv .reached) (came l .waits)) in
+    let said = writes-inside _ _ _ _ _ (told .1 .0 (inv .reached) (came l .waits) .writes) in
     c .before .before .before .before .before .before .take-sets .ensures .1 .0 .1 ∙ said .1 ∙ inv .outSize
 
 same-length-4 : tie.Need-same-length-4 Inv-loop μ-loop
@@ -100,7 +100,7 @@ same-length-4 c =
     let l = c .before .before .before .before .before .before .before .before .before .before .before .before .before .before .before .before in
     let inv = piece l .before .before .loop .inv in
     let told = l .hear-line .ensures in
-    let reported = reports-inside (told .1 .1 (inv .reached) (came l .waits)) in
+    let reported = writes-inside _ _ _ _ _ (told .1 .1 (inv .reached) (came l .waits) .writes) in
     reported .1 ∙ inv .errSize
 
 returns-2 : tie.Need-returns-2 Inv-loop μ-loop
@@ -116,8 +116,8 @@ loop-again-3 c =
     let l = c .before .before .before .before .before .before .before .before .before .before .before .before .before .before .before in
     let inv = piece l .before .before .loop .inv in
     let told = l .hear-line .ensures in
-    let said = says-inside (told .1 .0 (inv .reached) (came l .waits)) in
-    let reported = reports-inside (told .1 .1 (inv .reached) (came l .waits)) in
+    let said = writes-inside _ _ _ _ _ (told .1 .0 (inv .reached) (came l .waits) .writes) in
+    let reported = writes-inside _ _ _ _ _ (told .1 .1 (inv .reached) (came l .waits) .writes) in
     let taken = c .before .before .before .before .before .take-sets in
     obeying-line inv (piece l .feed .result) (piece l .feed .ensures) (ended l) _ _ _ _ _ (taken .ensures .0) (omega (arith, taken .ensures .1 .0 .0, said .1), taken .ensures .1 .0 .1 ∙ said .1) reported
     (obeyed-taken _ _ _ _ _ _ _ (told .1 .0) (c .before .before .before .before .before .before .before .before .sets-left .ensures) (taken .result) (taken .ensures .1 .1) (not-false _ (c .if3 .left))) (c .before .before .before .before .before .before .before .before .before .new .result) (c .before .before .before .before .before .before .before .before .before .new .ensures)

@@ -1,7 +1,7 @@
 -- Each return is the law of the bytes that were tested before it.
-use borrow.Author.Needs.{needs}
 use native.Mathlib.Omega.{arith}
-use Rattle.set.proofs.LastBytes.{whole-short, whole-other, whole-closed, counter-alone, counter-joined, variable-alone, variable-joined}
+use borrow.Author.Needs.{needs}
+use Rattle.set.proofs.LastBytes.{whole-short, whole-other, whole-closed, counter-ends, variable-ends}
 use Rattle.set.proofs.ending.ending_of.Statement.{statement}
 use Rattle.set.proofs.ending.ending_of.Tie as tie
 
@@ -20,11 +20,11 @@ ending-of-spec =
     (λ c. search needs)
     (λ c. search needs)
     (λ c. search needs)
-    (λ c. search counter-alone)
-    (λ c. search counter-joined)
+    (λ c κs. search needs)
+    (λ c. search counter-ends)
     (λ c κs. search needs)
     (λ c. omega arith)
     (λ c. omega arith)
     (λ c. search needs)
-    (λ c. search variable-alone)
-    (λ c. search variable-joined))
+    (λ c κs. search needs)
+    (λ c. search variable-ends))

@@ -118,3 +118,7 @@ feeds-one input (waits w) r r′ p q = fed (p .0 ∙ sym (q .0)) (p .2 ∙ sym (
 pub feed-unique : (self : Intake) (w input : List ℕ) (at : ℕ) (r r′ : Fed) → self ≡ held w
     → ((w : List ℕ) → self ≡ held w → Feeds input (feed w (from input at)) r) → ((w : List ℕ) → self ≡ held w → Feeds input (feed w (from input at)) r′) → r ≡ r′
 feed-unique self w input at r r′ e p q = feeds-one input (feed w (from input at)) r r′ (p w e) (q w e)
+
+-- and so has `new`
+pub new-intake-unique : (r r′ : Intake) → r ≡ held [] → r′ ≡ held [] → r ≡ r′
+new-intake-unique r r′ p q = p ∙ sym q

@@ -23,7 +23,7 @@ use Rattle.line.proofs.command.Command as Tag
 use Rattle.store.specs.declared.Store.{Store}
 use Rattle.text.specs.declared.read.Span.{Span}
 use Rattle.bench.specs.Memory.{memory, packedSession, packedStore}
-use Rattle.bench.specs.Outcome.{At, Does, Obeys, Follows, Hears, Keeps, Named, Starred, obey}
+use Rattle.bench.specs.Outcome.{At, Does, Obeys, Hears, Keeps, Named, Starred, obey}
 use Rattle.bench.specs.declared.state.Mode.the-variants as M
 use Rattle.bench.specs.declared.state.Session.{Session}
 use Rattle.bench.specs.declared.state.Step.{Step}
@@ -60,20 +60,6 @@ resets session store next r b h e d = record { obeys = λ a. rw (news session h 
 -- what was read is in range
 read-range : (s : List ℕ) (c : Command) (p : C.Command) → IsRead s c → viewOf s c ≡ command p → C.inRange width p ≡ true
 read-range s c p i v = read-inRange width s p (sym (i .view) ∙ v)
-
--- an obeyed command is what the line says
-pub follows-by : (session : Session) (store : Store) (s : List ℕ) (c : Command) (p : C.Command) (old new : List ℕ) (r : Step) → IsRead s c → viewOf s c ≡ command p → Obeys session store p old new r
-    → Follows session store s old new r
-unfolding P.obeyed
-follows-by session store s c p old new r i v o = record { follows = λ a. rw (sym (i .view) ∙ v) (o .obeys a) }
-
--- a refusal of the line
-pub follows-refused : (session : Session) (store : Store) (s : List ℕ) (c : Command) (why : Refusal) (b : List ℕ) (r : Step) → IsRead s c → c ≡ L.Refused why
-    → ((fs : List Form) (st : P.Session) (b : List ℕ) → session ≡ packedSession st → store ≡ packedStore fs → Does (P.refuse (refusalOf why) fs st) b b r)
-    → Follows session store s b b r
-unfolding P.obeyed viewOf
-follows-refused session store s c why b r i e d =
-    record { follows = λ a. rw (sym (i .view) ∙ ap (viewOf s) e) (d (a .forms) (a .state) b (a .here) (a .there)) }
 
 -- the empty line
 empties : (room : ℕ) (fs : List Form) (st : P.Session) → obey room fs st C.empty ≡ P.done fs st
@@ -146,67 +132,81 @@ keeps-line s (L.Delete name) h = absurd (miss (5 ∷ 6 ∷ 7 ∷ 8 ∷ 9 ∷ 10 
 keeps-line s (L.Print sets copies) h = absurd (miss (5 ∷ 6 ∷ 7 ∷ 8 ∷ 9 ∷ 10 ∷ 11 ∷ 12 ∷ 13 ∷ []) 17 tt h)
 keeps-line s (L.Refused why) h = absurd (miss (5 ∷ 6 ∷ 7 ∷ 8 ∷ 9 ∷ 10 ∷ 11 ∷ 12 ∷ 13 ∷ []) 18 tt h)
 
--- a line is followed where no answer is waited for
-pub hears-follow : (session : Session) (store : Store) (s old new : List ℕ) (r : Step) → Tagged (0 ∷ 1 ∷ 2 ∷ 3 ∷ 5 ∷ 6 ∷ []) session → Follows session store s old new r → Hears session store s old new r
-unfolding obey P.heard packedSession memory
-hears-follow session store s old new r h f = record { hears = λ a. rw (heeds a (a .state) (a .here)) (f .follows a) }
-  where
-    heeds : (a : At session store) (st : P.Session) → session ≡ packedSession st
-        → P.heard width (length old) (a .forms) st s ≡ P.obeyed (a .forms) st (obey (length old) (a .forms) st) (read width s)
-    heeds a P.idle e = refl
-    heeds a (P.collecting name ls) e = refl
-    heeds a P.spoiled e = refl
-    heeds a (P.opened ls) e = refl
-    heeds a (P.answering ls given) e = absurd (wrong (0 ∷ 1 ∷ 2 ∷ 3 ∷ 5 ∷ 6 ∷ []) session (P.answering ls given) e h tt)
-    heeds a (P.ready ls given) e = refl
-    heeds a (P.printing ls given n c i) e = refl
+-- where no answer is waited for
+module _ (session : Session) (store : Store) (s old new : List ℕ) (r : Step) (tagged : Tagged (0 ∷ 1 ∷ 2 ∷ 3 ∷ 5 ∷ 6 ∷ []) session) where
+  -- a line that is followed as it is read is heard
+  hears-read : ((a : At session store) → Does (P.obeyed (a .forms) (a .state) (obey (length old) (a .forms) (a .state)) (read width s)) old new r) → Hears session store s old new r
+  unfolding obey P.heard packedSession memory
+  hears-read f = record { hears = λ a. rw (heeds a (a .state) (a .here)) (f a) }
+    where
+      heeds : (a : At session store) (st : P.Session) → session ≡ packedSession st
+          → P.heard width (length old) (a .forms) st s ≡ P.obeyed (a .forms) st (obey (length old) (a .forms) st) (read width s)
+      heeds a P.idle e = refl
+      heeds a (P.collecting name ls) e = refl
+      heeds a P.spoiled e = refl
+      heeds a (P.opened ls) e = refl
+      heeds a (P.answering ls given) e = absurd (wrong (0 ∷ 1 ∷ 2 ∷ 3 ∷ 5 ∷ 6 ∷ []) session (P.answering ls given) e tagged tt)
+      heeds a (P.ready ls given) e = refl
+      heeds a (P.printing ls given n c i) e = refl
 
-module _ (session : Session) (store : Store) (s : List ℕ) (c : Command) (i : IsRead s c) (r : Step) (old new : List ℕ) where
+  -- the command that it says is obeyed
+  heeds : (c : Command) (p : C.Command) → IsRead s c → viewOf s c ≡ command p → Obeys session store p old new r → Hears session store s old new r
+  unfolding P.obeyed
+  heeds c p i v o = hears-read λ a. rw (sym (i .view) ∙ v) (o .obeys a)
+
+-- or it is refused
+pub heeds-refused : (session : Session) (store : Store) (s b : List ℕ) (r : Step) → Tagged (0 ∷ 1 ∷ 2 ∷ 3 ∷ 5 ∷ 6 ∷ []) session → (c : Command) (why : Refusal) → IsRead s c → c ≡ L.Refused why
+    → ((fs : List Form) (st : P.Session) (b : List ℕ) → session ≡ packedSession st → store ≡ packedStore fs → Does (P.refuse (refusalOf why) fs st) b b r) → Hears session store s b b r
+unfolding P.obeyed viewOf
+heeds-refused session store s b r tagged c why i e d =
+    hears-read session store s b b r tagged λ a. rw (sym (i .view) ∙ ap (viewOf s) e) (d (a .forms) (a .state) b (a .here) (a .there))
+
+module _ (session : Session) (store : Store) (s : List ℕ) (c : Command) (i : IsRead s c) (r : Step) (old new : List ℕ) (tagged : Tagged (0 ∷ 1 ∷ 2 ∷ 3 ∷ 5 ∷ 6 ∷ []) session) where
   -- the empty line
-  pub heeds-empty : c ≡ L.Empty → Obeys session store C.empty old new r → Follows session store s old new r
+  pub heeds-empty : c ≡ L.Empty → Obeys session store C.empty old new r → Hears session store s old new r
   unfolding viewOf
-  heeds-empty e = follows-by session store s c _ old new r i (ap (viewOf s) e)
+  heeds-empty e = heeds session store s old new r tagged c _ i (ap (viewOf s) e)
 
   -- `N`
-  pub heeds-new : c ≡ L.New → Obeys session store C.new old new r → Follows session store s old new r
+  pub heeds-new : c ≡ L.New → Obeys session store C.new old new r → Hears session store s old new r
   unfolding viewOf
-  heeds-new e = follows-by session store s c _ old new r i (ap (viewOf s) e)
+  heeds-new e = heeds session store s old new r tagged c _ i (ap (viewOf s) e)
 
   -- `FS`
-  pub heeds-start : (name : Span) → c ≡ L.Start name → Obeys session store (C.file (C.start (textIn s name))) old new r → Follows session store s old new r
+  pub heeds-start : (name : Span) → c ≡ L.Start name → Obeys session store (C.file (C.start (textIn s name))) old new r → Hears session store s old new r
   unfolding viewOf
-  heeds-start name e = follows-by session store s c _ old new r i (ap (viewOf s) e)
+  heeds-start name e = heeds session store s old new r tagged c _ i (ap (viewOf s) e)
 
   -- `FE`
-  pub heeds-finish : c ≡ L.Finish → Obeys session store (C.file C.finish) old new r → Follows session store s old new r
+  pub heeds-finish : c ≡ L.Finish → Obeys session store (C.file C.finish) old new r → Hears session store s old new r
   unfolding viewOf
-  heeds-finish e = follows-by session store s c _ old new r i (ap (viewOf s) e)
+  heeds-finish e = heeds session store s old new r tagged c _ i (ap (viewOf s) e)
 
   -- `FI`
-  pub heeds-inform : c ≡ L.Inform → Obeys session store (C.file C.inform) old new r → Follows session store s old new r
+  pub heeds-inform : c ≡ L.Inform → Obeys session store (C.file C.inform) old new r → Hears session store s old new r
   unfolding viewOf
-  heeds-inform e = follows-by session store s c _ old new r i (ap (viewOf s) e)
+  heeds-inform e = heeds session store s old new r tagged c _ i (ap (viewOf s) e)
 
   -- `FR`
-  pub heeds-recall : (name : Span) → c ≡ L.Recall name → Obeys session store (C.file (C.recall (textIn s name))) old new r → Follows session store s old new r
+  pub heeds-recall : (name : Span) → c ≡ L.Recall name → Obeys session store (C.file (C.recall (textIn s name))) old new r → Hears session store s old new r
   unfolding viewOf
-  heeds-recall name e = follows-by session store s c _ old new r i (ap (viewOf s) e)
+  heeds-recall name e = heeds session store s old new r tagged c _ i (ap (viewOf s) e)
 
   -- `FK`
-  pub heeds-delete : (name : Span) → c ≡ L.Delete name → Obeys session store (C.file (C.delete (textIn s name))) old new r → Follows session store s old new r
+  pub heeds-delete : (name : Span) → c ≡ L.Delete name → Obeys session store (C.file (C.delete (textIn s name))) old new r → Hears session store s old new r
   unfolding viewOf
-  heeds-delete name e = follows-by session store s c _ old new r i (ap (viewOf s) e)
+  heeds-delete name e = heeds session store s old new r tagged c _ i (ap (viewOf s) e)
 
   -- `?`
-  pub heeds-ask : c ≡ L.Ask → Obeys session store C.ask old new r → Follows session store s old new r
+  pub heeds-ask : c ≡ L.Ask → Obeys session store C.ask old new r → Hears session store s old new r
   unfolding viewOf
-  heeds-ask e = follows-by session store s c _ old new r i (ap (viewOf s) e)
+  heeds-ask e = heeds session store s old new r tagged c _ i (ap (viewOf s) e)
 
   -- `P`
-  pub heeds-print : (sets copies : ℕ) → c ≡ L.Print sets copies → Obeys session store (C.print sets copies) old new r → Follows session store s old new r
+  pub heeds-print : (sets copies : ℕ) → c ≡ L.Print sets copies → Obeys session store (C.print sets copies) old new r → Hears session store s old new r
   unfolding viewOf
-  heeds-print sets copies e = follows-by session store s c _ old new r i (ap (viewOf s) e)
+  heeds-print sets copies e = heeds session store s old new r tagged c _ i (ap (viewOf s) e)
 
   -- a line for a form
-  pub heeds-keep : (k : Keeps s c) → Obeys session store (C.keep (k .line)) old new r → Follows session store s old new r
-  heeds-keep k = follows-by session store s c _ old new r i (k .is)
+  pub heeds-keep : (k : Keeps s c) → Obeys session store (C.keep (k .line)) old new r → Hears session store s old new r
+  heeds-keep k = heeds session store s old new r tagged c _ i (k .is)

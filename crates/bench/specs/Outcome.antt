@@ -8,7 +8,7 @@ use lib.Dec.{leb}
 use Rattle.paper.specs.Byte.{if_then_else_, same}
 use Rattle.paper.specs.Command.{Command, Define, FormLine, keep, isName, star}
 use Rattle.paper.specs.Form.{Form, textOf, asked}
-use Rattle.paper.specs.Read.{command, read}
+use Rattle.paper.specs.Read.{command}
 use Rattle.paper.specs.Refusal as R
 use Rattle.paper.specs.Bench as P
 use Rattle.paper.specs.State.{Sane, Storable, fitting}
@@ -52,11 +52,6 @@ obey room fs (P.printing ls given n k i) c = P.inPrinting fs (P.printing ls give
 -- a step obeys a command
 pub record Obeys (session : Session) (store : Store) (c : Command) (old new : List ℕ) (r : Step) : Type 0 where
   pub obeys : (a : At session store) → Does (obey (length old) (a .forms) (a .state) c) old new r
-
--- a step follows a line that is read
-pub record Follows (session : Session) (store : Store) (s old new : List ℕ) (r : Step) : Type 0 where
-  pub follows : (a : At session store)
-      → Does (P.obeyed (a .forms) (a .state) (obey (length old) (a .forms) (a .state)) (read width s)) old new r
 
 -- a step hears a line
 pub record Hears (session : Session) (store : Store) (s old new : List ℕ) (r : Step) : Type 0 where

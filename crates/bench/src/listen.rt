@@ -2,8 +2,7 @@
 ghost use Prim.Native.Nat.{ℕ};
 ghost use mathlib.Core.List.{List};
 ghost use Rattle.paper.specs.Command as C;
-ghost use Rattle.line.specs.Given.{IsRead};
-ghost use Rattle.bench.specs.Outcome.{At, Obeys, Hears, Follows};
+ghost use Rattle.bench.specs.Outcome.{At, Obeys, Hears};
 use crate::answer::answer;
 use crate::answer::ask;
 use crate::collect::finish;
@@ -36,35 +35,27 @@ fn reset(session: Session, store: Store) -> Step
     }
 }
 
-// A line that was read, as a command or a refusal.
-fn follow(session: Session, store: Store, s: &[u8], c: Command, reply: &mut [u8]) -> Step
-    requires { ⌜ At session store ⌝ }
-    requires { ⌜ IsRead (now s) c ⌝ }
-    ensures { λ r. ⌜ Follows session store (now (s .entry)) (now (reply .entry)) (now (reply .exit)) r ⌝ }
-{
-    match c {
-        Command::Empty => done(session, store),
-        Command::New => reset(session, store),
-        Command::Start { name } => start(session, store, s, name),
-        Command::Finish => finish(session, store),
-        Command::Inform => inform(session, store, reply),
-        Command::Recall { name } => recall(session, store, s, name),
-        Command::Delete { name } => delete(session, store, s, name),
-        Command::Ask => ask(session, store),
-        Command::Print { sets, copies } => print(session, store, sets, copies),
-        Command::Refused { why } => refuse(why, session, store),
-        _ => keep(session, store, s, c),
-    }
-}
-
-// A line: an answer where answers are asked for, and else a command.
+// A line: an answer where answers are asked for, and else a command or a refusal.
 pub fn listen(session: Session, store: Store, s: &[u8], reply: &mut [u8]) -> Step
     requires { ⌜ At session store ⌝ }
     ensures { λ r. ⌜ Hears session store (now (s .entry)) (now (reply .entry)) (now (reply .exit)) r ⌝ }
 {
     let mode = session.mode;
     let Mode::Answering { place } = mode else {
-        return follow(session, store, s, read_line(s), reply);
+        let c = read_line(s);
+        return match c {
+            Command::Empty => done(session, store),
+            Command::New => reset(session, store),
+            Command::Start { name } => start(session, store, s, name),
+            Command::Finish => finish(session, store),
+            Command::Inform => inform(session, store, reply),
+            Command::Recall { name } => recall(session, store, s, name),
+            Command::Delete { name } => delete(session, store, s, name),
+            Command::Ask => ask(session, store),
+            Command::Print { sets, copies } => print(session, store, sets, copies),
+            Command::Refused { why } => refuse(why, session, store),
+            _ => keep(session, store, s, c),
+        };
     };
     answer(session, store, s, place)
 }

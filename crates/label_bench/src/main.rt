@@ -32,7 +32,7 @@ struct Run {
     going: bool,
 }
 
-// A run that stands there.
+// A run by its parts.
 fn stand(bench: Bench, intake: Intake, lines: usize, going: bool) -> Run
     ensures { λ r. ⌜ (r .bench ≡ bench) × (r .intake ≡ intake) × (r .lines ≡ lines) × (r .going ≡ going) ⌝ }
 {

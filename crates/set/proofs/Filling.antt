@@ -1,5 +1,5 @@
 -- Three pieces written one behind the other: the room that each has, and what stands there then.
-use mathlib.Core.Path.{_≡_}
+use mathlib.Core.Path.{_≡_, _∙_}
 use mathlib.Core.Bool.{Bool, true, false}
 use mathlib.Core.List.{List, [], _∷_, _++_}
 use Prim.Native.Nat.{ℕ, _+_, _-_, _≤_, _<_}
@@ -68,9 +68,14 @@ pub shown-text : (t : Bool) (text answers : List ℕ) (start end : ℕ) → t �
 unfolding shownPart partOf
 shown-text t text answers start end e = rw e
 
--- the shown answer in place of a line's last bytes
-pub answered-line : (old new line answers x : List ℕ) (at end tail n : ℕ) (opens : Bool) (v : Values) → x ≡ partOf answers (placeBegins v n) (placeEnds v n)
-    → Writes old at (headText (take (length line - tail) line) opens ++ (escape x ++ (34 ∷ []))) new end
+-- the part from the start is the front
+pub part-front : (s : List ℕ) (n : ℕ) → partOf s 0 n ≡ take n s
+unfolding partOf
+part-front s n = let same : n - 0 ≡ n = omega arith in rw same
+
+-- the shown answer behind the shown front of a line
+pub answered-line : (old new line answers head x : List ℕ) (at end tail n : ℕ) (opens : Bool) (v : Values) → head ≡ partOf line 0 (length line - tail) → x ≡ partOf answers (placeBegins v n) (placeEnds v n)
+    → Writes old at (headText head opens ++ (escape x ++ (34 ∷ []))) new end
     → Writes old at (answeredLine line tail opens v n answers) new end
 unfolding answeredLine
-answered-line old new line answers x at end tail n opens v e w = rw (← e) w
+answered-line old new line answers head x at end tail n opens v f e w = let front = f ∙ part-front line (length line - tail) in rw (← front, ← e) w

@@ -92,7 +92,8 @@ pub fn put_counter(
     put_counted(out, at, &line[..cut], opens, value, digits)
 }
 
-// A line whose last bytes name a variable, with the variable's answer in place of them.
+// A line whose last bytes name a variable, with the variable's answer in place of them: what is shown is a part of the
+// form's text and then one of the answers.
 pub fn put_variable<'a>(
     out: &mut [u8],
     at: usize,
@@ -110,11 +111,7 @@ pub fn put_variable<'a>(
     let cut = line.len() - tail;
     let start = v.starts[n];
     let end = v.ends[n];
-    put_answered(
-        out,
-        at,
-        &line[..cut],
-        opens,
-        shown(line, answers, true, start, end),
-    )
+    let head = shown(line, answers, false, 0, cut);
+    let answer = shown(line, answers, true, start, end);
+    put_answered(out, at, head, opens, answer)
 }

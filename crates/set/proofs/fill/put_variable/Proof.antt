@@ -1,13 +1,12 @@
--- The line without its last bytes is the head, and the answer is the part that is shown.
+-- The line without its last bytes is a part of the form's text, and the answer one of the answers.
 use Prim.Native.Nat.{_-_}
-use mathlib.Core.Path.{sym}
+use mathlib.Core.Path.{_∙_}
 use native.Mathlib.Omega.{arith}
 use lib.ListN.{length}
-use lib.Seq.{length-take-le}
+use borrow.Author.Needs.{needs}
 use Rattle.set.specs.Fill.{shownPart, Within}
 use Rattle.set.specs.Told.{answeredLine}
-use Rattle.set.proofs.Filling.{answered-line}
-use borrow.Author.Needs.{needs}
+use Rattle.set.proofs.Filling.{part-front, answered-line}
 use Rattle.set.proofs.fill.put_variable.Statement.{statement}
 use Rattle.set.proofs.fill.put_variable.Tie as tie
 
@@ -21,10 +20,8 @@ put-variable-spec =
     (λ c. search needs)
     (λ c. search needs)
     (λ c. search needs)
-    (λ c.
-    let a = c .before .before .before .before .before .before .before .args in
-    sym (length-take-le (length (a .line .now) - a .tail) (a .line .now) (omega arith)))
-    (λ c κs. let p = c .before .before .before .before .before .before .before .pre .0 in (p .2, p .3))
-    (λ c κs. rw (c .shown .ensures) (c .before .before .before .before .before .before .before .before .pre .1))
+    (λ c κs. (omega arith, omega arith))
+    (λ c κs. let p = c .before .before .before .before .before .before .pre .0 in (p .2, p .3))
+    (λ c κs. rw (c .before .before .shown .ensures ∙ part-front _ _, c .before .shown2 .ensures) (c .before .before .before .before .before .before .before .before .pre .1))
     (λ c. search needs)
     (λ c. search answered-line))

@@ -5,7 +5,8 @@
     docs/states.py --check    fails if docs/states.svg is not what would be written
 
 The rows stand in crates/paper/proofs/Home.antt, where each of them is proved by
-computation: an arrow that is drawn is one that the definitions take.
+computation: an arrow that is drawn is one that the definitions take, with the
+line that is written at it.
 """
 import math
 import os
@@ -17,15 +18,28 @@ HERE = os.path.dirname(os.path.abspath(__file__))
 ROWS = os.path.join(HERE, '..', 'crates', 'paper', 'proofs', 'Home.antt')
 PICTURE = os.path.join(HERE, 'states.svg')
 
-WIDTH, HEIGHT = 124, 44
-PLACES = {'Spoiled': (120, 80), 'Collecting': (440, 80), 'Idle': (280, 260), 'Open': (560, 260), 'Answering': (780, 260),
-          'Ready': (780, 440), 'Printing': (440, 440)}
-BENDS = {('Answering', 'Idle'): -150}
+WIDTH, HEIGHT = 164, 44
+SPOILED = 'Collecting, spoiled'
+PLACES = {SPOILED: (130, 100), 'Collecting': (520, 100), 'Idle': (320, 320), 'Open': (600, 320), 'Answering': (900, 320),
+          'Ready': (900, 540), 'Printing': (520, 540)}
+BENDS = {('Answering', 'Idle'): -170, ('Idle', 'Ready'): 50, ('Ready', 'Idle'): 40, ('Printing', 'Idle'): 60, (SPOILED, 'Idle'): -30,
+         ('Idle', 'Collecting'): 80, ('Collecting', 'Idle'): 50, ('Idle', 'Open'): 40, ('Open', 'Idle'): 40}
+# what leads along each arrow
+WORDS = {
+    ('Idle', 'Collecting'): 'a form begins', ('Collecting', 'Collecting'): 'a line is kept', ('Collecting', SPOILED): 'a line is refused',
+    ('Collecting', 'Idle'): 'stored or refused', (SPOILED, SPOILED): 'any other line', (SPOILED, 'Idle'): 'refused: spoiled',
+    ('Idle', 'Open'): 'a form that asks', ('Idle', 'Ready'): 'a form that asks for nothing', ('Open', 'Answering'): 'begin to ask',
+    ('Open', 'Idle'): 'give up', ('Answering', 'Answering'): 'an answer that fits', ('Answering', 'Ready'): 'the last answer fits',
+    ('Answering', 'Idle'): 'an answer that does not fit', ('Ready', 'Printing'): 'sets are due', ('Ready', 'Idle'): 'give up',
+    ('Printing', 'Printing'): 'a set of several', ('Printing', 'Idle'): 'the rest is dropped, or the last set',
+}
+LEGEND = ('At each arrow stands what leads along it and, below, a line that does (or a take of a set), as the theorem arrows has it.',
+          'In Answering every line is an answer, N too: here the form asks for a digit, so that 7 fits and x does not.')
 TEXT = r'"((?:[^"\\]|\\.)*)"'
 
 
 def arrows():
-    """Each arrow once: from, to, and what leads along it."""
+    """Each arrow once: from, to, and the lines that lead along it."""
     found = {}
     with open(ROWS, encoding='utf-8') as source:
         for row in source:
@@ -34,6 +48,8 @@ def arrows():
                 continue
             *_, said, here, there = ['a take', *(text.replace('\\"', '"') for text in re.findall(TEXT, row))]
             found.setdefault((here, there), []).append('a take' if kind[1] == 'Taken' else said)
+    if found.keys() != WORDS.keys():
+        sys.exit(f'words and rows differ: {sorted(found.keys() ^ WORDS.keys())}')
     return found
 
 
@@ -44,18 +60,19 @@ def edge_point(centre, toward):
     return centre[0] + dx * scale, centre[1] + dy * scale
 
 
-def label(x, y, words):
-    return f'<text x="{x:.0f}" y="{y:.0f}" class="say">{escape(", ".join(words))}</text>'
+def label(x, y, words, lines):
+    return [f'<text x="{x:.0f}" y="{y - 8:.0f}" class="why">{escape(words)}</text>',
+            f'<text x="{x:.0f}" y="{y + 7:.0f}" class="say">{escape(", ".join(lines))}</text>']
 
 
-def loop(place, words):
+def loop(place, words, lines):
     x, y = place
     top = y - HEIGHT / 2
-    return [f'<path d="M{x - 20} {top} C{x - 34} {top - 40} {x + 34} {top - 40} {x + 20} {top}" class="way"/>',
-            label(x, top - 36, words)]
+    return [f'<path d="M{x - 20} {top} C{x - 34} {top - 34} {x + 34} {top - 34} {x + 20} {top}" class="way"/>',
+            *label(x, top - 39, words, lines)]
 
 
-def arrow(here, there, words, bend):
+def arrow(here, there, words, lines, bend):
     middle = ((here[0] + there[0]) / 2, (here[1] + there[1]) / 2)
     dx, dy = there[0] - here[0], there[1] - here[1]
     length = math.hypot(dx, dy)
@@ -63,31 +80,44 @@ def arrow(here, there, words, bend):
     start, end = edge_point(here, control), edge_point(there, control)
     on_curve = ((start[0] + 2 * control[0] + end[0]) / 4, (start[1] + 2 * control[1] + end[1]) / 4)
     return [f'<path d="M{start[0]:.0f} {start[1]:.0f} Q{control[0]:.0f} {control[1]:.0f} {end[0]:.0f} {end[1]:.0f}" class="way"/>',
-            label(on_curve[0], on_curve[1] - 5, words)]
+            *label(*on_curve, words, lines)]
+
+
+def start():
+    """The mark of the state that a bench begins in."""
+    x, y = PLACES['Idle']
+    left = x - WIDTH / 2
+    return [f'<circle cx="{left - 70}" cy="{y}" r="7"/>', f'<path d="M{left - 62} {y} L{left} {y}" class="way"/>',
+            f'<text x="{left - 70}" y="{y + 24}" class="why">start</text>']
 
 
 def picture():
-    found = arrows()
-    parts = []
-    for (here, there), words in sorted(found.items()):
+    ways, labels = start(), []
+    for (here, there), lines in sorted(arrows().items()):
+        words = WORDS[here, there]
         if here == there:
-            parts += loop(PLACES[here], words)
+            way, *said = loop(PLACES[here], words, lines)
         else:
-            bend = BENDS.get((here, there), 36 if (there, here) in found else 0)
-            parts += arrow(PLACES[here], PLACES[there], words, bend)
+            way, *said = arrow(PLACES[here], PLACES[there], words, lines, BENDS.get((here, there), 0))
+        ways.append(way)
+        labels += said
+    boxes = []
     for name, (x, y) in sorted(PLACES.items()):
-        parts.append(f'<rect x="{x - WIDTH / 2:.0f}" y="{y - HEIGHT / 2:.0f}" width="{WIDTH}" height="{HEIGHT}" rx="8" class="state"/>')
-        parts.append(f'<text x="{x}" y="{y + 5}" class="name">{name}</text>')
-    body = '\n'.join(parts)
-    return f'''<svg xmlns="http://www.w3.org/2000/svg" viewBox="0 0 900 500" width="900" height="500">
+        boxes.append(f'<rect x="{x - WIDTH / 2:.0f}" y="{y - HEIGHT / 2:.0f}" width="{WIDTH}" height="{HEIGHT}" rx="8" class="state"/>')
+        boxes.append(f'<text x="{x}" y="{y + 5}" class="name">{name}</text>')
+    boxes += [f'<text x="20" y="{620 + 18 * i}" class="legend">{line}</text>' for i, line in enumerate(LEGEND)]
+    body = '\n'.join(ways + labels + boxes)
+    return f'''<svg xmlns="http://www.w3.org/2000/svg" viewBox="0 0 1020 650" width="1020" height="650">
 <style>
 .state {{ fill: #eef4ee; stroke: #335533; stroke-width: 1.5 }}
 .name {{ font: bold 15px sans-serif; text-anchor: middle }}
+.why {{ font: 12px sans-serif; text-anchor: middle; paint-order: stroke; stroke: #ffffff; stroke-width: 4px }}
 .say {{ font: 13px monospace; text-anchor: middle; paint-order: stroke; stroke: #ffffff; stroke-width: 4px }}
+.legend {{ font: 13px sans-serif }}
 .way {{ fill: none; stroke: #555555; stroke-width: 1.3; marker-end: url(#tip) }}
 </style>
 <defs><marker id="tip" viewBox="0 0 8 8" refX="8" refY="4" markerWidth="8" markerHeight="8" orient="auto"><path d="M0 0L8 4L0 8z" fill="#555555"/></marker></defs>
-<rect width="900" height="500" fill="#ffffff"/>
+<rect width="1020" height="650" fill="#ffffff"/>
 {body}
 </svg>
 '''

@@ -16,11 +16,11 @@ use Rattle.paper.specs.Calls.{line, called, afterCalls}
 use Rattle.paper.proofs.Test.{either}
 use Rattle.paper.proofs.Cases.{narrow, ran}
 
--- the name of a state
+-- the name of a state, as 01 has it
 unfoldable pub nameOf : Session → String
 nameOf idle = "Idle"
 nameOf (collecting name ls) = "Collecting"
-nameOf spoiled = "Spoiled"
+nameOf spoiled = "Collecting, spoiled"
 nameOf (opened ls) = "Open"
 nameOf (answering ls given) = "Answering"
 nameOf (ready ls given) = "Ready"
@@ -51,17 +51,17 @@ Taken before from to = LeadsTo before from × (nameOf (takeSet enough (heardAll 
 pub arrows :
     Arrow "" "FS\"X\"" "Idle" "Collecting"
     × Arrow "FS\"X\"\n" "Q1,0" "Collecting" "Collecting"
-    × Arrow "FS\"X\"\n" "N" "Collecting" "Spoiled"
+    × Arrow "FS\"X\"\n" "N" "Collecting" "Collecting, spoiled"
     × Arrow "FS\"X\"\n" "FE" "Collecting" "Idle"
-    × Arrow "FS\"X\"\nN\n" "Q1,0" "Spoiled" "Spoiled"
-    × Arrow "FS\"X\"\nN\n" "FE" "Spoiled" "Idle"
+    × Arrow "FS\"X\"\nN\n" "Q1,0" "Collecting, spoiled" "Collecting, spoiled"
+    × Arrow "FS\"X\"\nN\n" "FE" "Collecting, spoiled" "Idle"
     × Arrow stores "FR\"X\"" "Idle" "Open"
     × Arrow stores "FR\"Y\"" "Idle" "Ready"
     × Arrow (stores ++ "FR\"X\"\n") "?" "Open" "Answering"
     × Arrow (stores ++ "FR\"X\"\n") "N" "Open" "Idle"
     × Arrow (stores ++ "FR\"X\"\n?\n") "7" "Answering" "Answering"
     × Arrow (stores ++ "FR\"X\"\n?\n7\n") "7" "Answering" "Ready"
-    × Arrow (stores ++ "FR\"X\"\n?\n") "N" "Answering" "Idle"
+    × Arrow (stores ++ "FR\"X\"\n?\n") "x" "Answering" "Idle"
     × Arrow (stores ++ "FR\"Y\"\n") "P2" "Ready" "Printing"
     × Arrow (stores ++ "FR\"Y\"\n") "N" "Ready" "Idle"
     × Arrow (stores ++ "FR\"Y\"\nP2\n") "N" "Printing" "Idle"

@@ -412,7 +412,7 @@ static bool read_shape(struct place *place, struct command *command)
     case COMMAND_V: return shape_of_V(place, command);
     case COMMAND_P: return shape_of_P(place, command);
     }
-    return false;
+    return false; /* unreached: every kind has its case */
 }
 
 static bool within(int value, int least, int most)
@@ -499,7 +499,7 @@ static bool in_range(const struct command *command)
     case COMMAND_V: return V_in_range(command);
     case COMMAND_P: return within(n[0], 1, 65535) && within(n[1], 1, 65535);
     }
-    return false;
+    return false; /* unreached: every kind has its case */
 }
 
 /* Letters first, then the shape of the whole line, then the ranges: the order
@@ -654,7 +654,7 @@ static void write_form_line(struct written *to, const struct command *command)
         break;
     case COMMAND_C: write_C(to, command); break;
     case COMMAND_V: write_V(to, command); break;
-    default: break;
+    default: break; /* unreached: no other kind is kept */
     }
 }
 

@@ -1,0 +1,57 @@
+"""Runs of a program on a stream, and what they give."""
+import os
+import resource
+import subprocess
+import tempfile
+
+HERE = os.path.dirname(os.path.abspath(__file__))
+QUICK = os.path.join(HERE, '..', 'target', 'second', 'bench')
+CHECKED = QUICK + '-checked'
+SECONDS = float(os.environ.get('SECONDS_TO_WAIT', 60))
+OUTPUT_BYTES = 1 << 26  # a program that writes more than any stream asks for is stopped
+os.environ['ASAN_OPTIONS'] = 'detect_leaks=0'  # nothing is allocated, and looking for leaks takes seconds at each end
+
+
+def limit_output():
+    resource.setrlimit(resource.RLIMIT_FSIZE, (OUTPUT_BYTES, OUTPUT_BYTES))
+
+
+def outcome(command, text):
+    """Status, standard output and standard error of one run."""
+    with tempfile.TemporaryFile() as given, tempfile.TemporaryFile() as out, tempfile.TemporaryFile() as err:
+        given.write(text)
+        given.seek(0)
+        try:
+            status = subprocess.run(command, stdin=given, stdout=out, stderr=err, timeout=SECONDS,
+                                    preexec_fn=limit_output, check=False).returncode
+        except subprocess.TimeoutExpired:
+            status = f'no end in {SECONDS:g} s'
+        out.seek(0)
+        err.seek(0)
+        return status, out.read(), err.read()
+
+
+def first_difference(one, other):
+    ours, theirs = one.split(b'\n'), other.split(b'\n')
+    for number, (a, b) in enumerate(zip(ours, theirs), 1):
+        if a != b:
+            return f'line {number}: {a!r} and {b!r}'
+    return f'{len(ours) - 1} and {len(theirs) - 1} lines'
+
+
+def complaint(expected, found):
+    """What is wrong with a run's outcome, or None; both are a status, standard output and standard error."""
+    if found[0] != expected[0]:
+        return f'ended with {found[0]}, {expected[0]} expected: {found[2].decode(errors="replace")[-500:]}'
+    for name, place in (('standard error', 2), ('standard output', 1)):
+        if found[place] != expected[place]:
+            return f'{name} differs, expected and found, {first_difference(expected[place], found[place])}'
+    return None
+
+
+def against_second(command, text):
+    """What differs between a program and the second one on a stream, or None, and the second program's standard error."""
+    second = outcome([CHECKED], text)
+    if second[0] != 0:
+        return f'the second program fails: {second[0]}\n{second[2].decode(errors="replace")}', b''
+    return complaint(second, outcome(command, text)), second[2]

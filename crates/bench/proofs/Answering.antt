@@ -23,8 +23,8 @@ use Rattle.text.specs.Place.{from}
 use Rattle.text.specs.Write.{Writes, padded}
 use Rattle.text.proofs.Written.{writes-length, writes-then}
 use Rattle.text.proofs.Padded.{padded-length, padded-write}
-use Rattle.line.specs.View.{width, refusalOf}
-use Rattle.line.specs.declared.command.Refusal.the-variants as W
+use Rattle.command.specs.View.{width, refusalOf}
+use Rattle.command.specs.declared.Refusal.the-variants as W
 use Rattle.form.specs.Asked.{defineOf, nextOf}
 use Rattle.form.specs.declared.asked.Define.{Define}
 use Rattle.form.specs.declared.asked.Next.{Next}

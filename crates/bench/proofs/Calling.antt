@@ -8,7 +8,7 @@ use Rattle.paper.specs.Bench as P
 use Rattle.paper.specs.Program.{toTake}
 use Rattle.paper.specs.State.{begun, hearing, taking}
 use Rattle.paper.proofs.Invariant.{led-sane}
-use Rattle.line.specs.View.{width}
+use Rattle.command.specs.View.{width}
 use Rattle.store.specs.Packed.{packed}
 use Rattle.store.specs.declared.Store.{Store}
 use Rattle.bench.specs.Memory.{memory, entriesOf, packedSession, packedStore}

@@ -21,12 +21,12 @@ use Rattle.paper.proofs.RoundTrip.{read-inRange}
 use Rattle.text.specs.Write.{Writes, padded}
 use Rattle.text.proofs.Padded.{padded-write}
 use Rattle.text.proofs.Written.{writes-then, writes-take}
-use Rattle.line.specs.View.{width, refusalOf, viewOf}
+use Rattle.command.specs.View.{width, refusalOf, viewOf}
+use Rattle.command.specs.declared.Command.{Command}
+use Rattle.command.specs.declared.Refusal.the-variants as W
 use Rattle.line.specs.Given.{IsRead}
-use Rattle.line.specs.Normal.{recordHeld, readable, readingText}
-use Rattle.line.specs.declared.command.Command.{Command}
-use Rattle.line.specs.declared.command.Refusal.the-variants as W
-use Rattle.line.proofs.RoundTrips.{stand-held}
+use Rattle.normal.specs.Normal.{recordHeld, readable, readingText}
+use Rattle.normal.proofs.RoundTrips.{stand-held}
 use Rattle.form.specs.Sound.{lineNumber}
 use Rattle.store.specs.Packed.{Entry, entry, packed, textsOf, Kept}
 use Rattle.store.specs.declared.Store.{Store}

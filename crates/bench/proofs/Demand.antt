@@ -16,11 +16,11 @@ use Rattle.paper.specs.Calls as C
 use Rattle.paper.specs.Calls.{called, answersTo, afterCalls, saying, quiet, order, setsFrom, Orders}
 use Rattle.paper.proofs.Invariant.{led-sane}
 use Rattle.paper.proofs.Printed.{GoodSet, prints-form, sets-well-formed, stored-one}
-use Rattle.line.specs.View.{width}
-use Rattle.line.specs.Normal.{Meets, Reports}
-use Rattle.line.specs.declared.command.Answer.{Answer}
-use Rattle.line.specs.declared.command.Answer.the-variants as A
-use Rattle.line.proofs.RoundTrips.{meets-one}
+use Rattle.command.specs.View.{width}
+use Rattle.command.specs.Answer.{Meets, Reports}
+use Rattle.command.specs.declared.Answer.{Answer}
+use Rattle.command.specs.declared.Answer.the-variants as A
+use Rattle.command.proofs.Outcome.{meets-one}
 use Rattle.bench.specs.Call.{packedBench, Reached, Gives}
 use Rattle.bench.specs.Runs.{Kind, hears, takes, Made, Promised, Chain, after, callOf, roomOf, onPaper, Report, front, wrote, Makes, Filled}
 use Rattle.bench.specs.declared.Bench.{Bench}

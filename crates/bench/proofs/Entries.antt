@@ -11,7 +11,7 @@ use Rattle.paper.specs.Command.{isName, isNameByte}
 use Rattle.paper.specs.Form.{Form, used}
 use Rattle.paper.specs.State.{AllStored, Stored}
 use Rattle.paper.proofs.Law.{and-left, and-right}
-use Rattle.line.specs.View.{width}
+use Rattle.command.specs.View.{width}
 use Rattle.store.specs.Packed.{entry, textsOf, Short, Kept}
 use Rattle.store.specs.declared.Store.{Store}
 use Rattle.bench.specs.Memory.{entriesOf, packedStore}

@@ -19,10 +19,10 @@ use Rattle.paper.specs.Bench as P
 use Rattle.paper.proofs.Law.{and-left, and-right}
 use Rattle.paper.proofs.Test.{either, clash}
 use Rattle.paper.proofs.Text.{same-eq}
-use Rattle.line.specs.View.{width, refusalOf, textIn}
-use Rattle.line.specs.Normal.{Meets}
-use Rattle.line.specs.declared.command.Answer.{Answer}
-use Rattle.line.specs.declared.command.Refusal.the-variants as W
+use Rattle.command.specs.View.{width, refusalOf, textIn}
+use Rattle.command.specs.Answer.{Meets}
+use Rattle.command.specs.declared.Answer.{Answer}
+use Rattle.command.specs.declared.Refusal.the-variants as W
 use Rattle.form.specs.Asked.{nextOf}
 use Rattle.form.specs.declared.asked.Next.{Next}
 use Rattle.form.specs.declared.asked.Next.the-variants as N

@@ -12,7 +12,7 @@ use Rattle.paper.specs.Form.{Form, textOf, find, without, names, listing}
 use Rattle.paper.specs.State.{Stored}
 use Rattle.paper.proofs.Store.{find-storable}
 use Rattle.paper.proofs.Test.{either}
-use Rattle.line.specs.View.{width}
+use Rattle.command.specs.View.{width}
 use Rattle.text.specs.Write.{padded}
 use Rattle.store.specs.Packed.{entry, textsOf, packed, bytesAt, findFrom, withoutIn, linesOf, listingOf}
 use Rattle.store.specs.declared.Store.{Store}

@@ -14,12 +14,12 @@ use Rattle.paper.specs.Bench as P
 use Rattle.paper.proofs.Test.{held}
 use Rattle.paper.proofs.RoundTrip.{read-inRange}
 use Rattle.paper.proofs.Invariant.{print-in}
-use Rattle.line.specs.View.{width, refusalOf, textIn, putOf, barOf, viewOf, Stand}
+use Rattle.command.specs.View.{width, refusalOf, textIn, putOf, barOf, viewOf, Stand}
+use Rattle.command.specs.declared.Refusal.{Refusal}
+use Rattle.command.specs.declared.Command.{Command}
+use Rattle.command.specs.declared.Command.the-variants as L
+use Rattle.command.proofs.Command as Tag
 use Rattle.line.specs.Given.{IsRead}
-use Rattle.line.specs.declared.command.Refusal.{Refusal}
-use Rattle.line.specs.declared.command.Command.{Command}
-use Rattle.line.specs.declared.command.Command.the-variants as L
-use Rattle.line.proofs.command.Command as Tag
 use Rattle.store.specs.declared.Store.{Store}
 use Rattle.text.specs.declared.read.Span.{Span}
 use Rattle.bench.specs.Memory.{memory, packedSession, packedStore}

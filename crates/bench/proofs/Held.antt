@@ -11,10 +11,10 @@ use Rattle.paper.specs.Command.{FormLine}
 use Rattle.paper.specs.Form.{Form}
 use Rattle.paper.specs.Refusal as R
 use Rattle.paper.specs.Bench as P
-use Rattle.line.specs.View.{refusalOf}
-use Rattle.line.specs.Normal.{Reports}
-use Rattle.line.specs.declared.command.Refusal.{Refusal}
-use Rattle.line.specs.declared.command.Answer.the-variants as A
+use Rattle.command.specs.View.{refusalOf}
+use Rattle.command.specs.Answer.{Reports}
+use Rattle.command.specs.declared.Refusal.{Refusal}
+use Rattle.command.specs.declared.Answer.the-variants as A
 use Rattle.store.specs.declared.Store.{Store}
 use Rattle.bench.specs.Memory.{memory, packedSession, packedStore}
 use Rattle.bench.specs.Outcome.{Does}

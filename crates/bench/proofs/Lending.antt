@@ -7,11 +7,11 @@ use lib.ListN.{length, take}
 use borrow.Author.Tests.{le-leb, lt-leb}
 use Rattle.paper.specs.Refusal as R
 use Rattle.paper.proofs.Law.{if-true, if-false}
-use Rattle.line.specs.View.{refusalOf}
-use Rattle.line.specs.Normal.{Reports, Meets}
-use Rattle.line.specs.declared.command.Answer.{Answer}
-use Rattle.line.specs.declared.command.Answer.the-variants as A
-use Rattle.line.specs.declared.command.Refusal.the-variants as W
+use Rattle.command.specs.View.{refusalOf}
+use Rattle.command.specs.Answer.{Reports, Meets}
+use Rattle.command.specs.declared.Answer.{Answer}
+use Rattle.command.specs.declared.Answer.the-variants as A
+use Rattle.command.specs.declared.Refusal.the-variants as W
 use Rattle.text.specs.Write.{Writes, written}
 use Rattle.text.proofs.Written.{writes-take, writes-length}
 use Rattle.bench.specs.Outcome.{handed}

@@ -9,7 +9,7 @@ use Rattle.text.specs.Write.{padded}
 use Rattle.text.specs.declared.read.Span.{Span}
 use Rattle.text.proofs.Content.{Steps, closes-ends, closes-steps}
 use Rattle.text.proofs.Padded.{padded-set}
-use Rattle.line.specs.View.{textIn, Holds}
+use Rattle.command.specs.View.{textIn, Holds}
 use Rattle.bench.specs.Memory.{named}
 
 -- some bytes of a name are copied, and the others stand from a place on

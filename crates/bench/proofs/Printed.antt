@@ -15,13 +15,13 @@ use Rattle.paper.specs.State.{Sane}
 use Rattle.paper.specs.Refusal as R
 use Rattle.paper.specs.Bench as P
 use Rattle.paper.proofs.Law.{if-true, if-false}
-use Rattle.line.specs.View.{width, refusalOf}
-use Rattle.line.specs.Normal.{Meets, Reports}
-use Rattle.line.specs.declared.command.Refusal.{Refusal}
-use Rattle.line.specs.declared.command.Refusal.the-variants as W
-use Rattle.line.specs.declared.command.Answer.{Answer}
-use Rattle.line.specs.declared.command.Answer.the-variants as A
-use Rattle.line.proofs.Lent.{front-length}
+use Rattle.command.specs.View.{width, refusalOf}
+use Rattle.command.specs.Answer.{Meets, Reports}
+use Rattle.command.specs.declared.Refusal.{Refusal}
+use Rattle.command.specs.declared.Refusal.the-variants as W
+use Rattle.command.specs.declared.Answer.{Answer}
+use Rattle.command.specs.declared.Answer.the-variants as A
+use Rattle.normal.proofs.Lent.{front-length}
 use Rattle.text.specs.Write.{Writes}
 use Rattle.store.specs.declared.Store.{Store}
 use Rattle.set.specs.Taking.{Answered, Taking, answersText}

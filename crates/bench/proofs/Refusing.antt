@@ -6,8 +6,8 @@ use Rattle.paper.specs.Command.{Command, FormLine, Filing, keep, file, finish, 
 use Rattle.paper.specs.Form.{Form}
 use Rattle.paper.specs.Refusal.{notNow}
 use Rattle.paper.specs.Bench as P
-use Rattle.line.specs.View.{refusalOf}
-use Rattle.line.specs.declared.command.Refusal.the-variants as W
+use Rattle.command.specs.View.{refusalOf}
+use Rattle.command.specs.declared.Refusal.the-variants as W
 use Rattle.store.specs.declared.Store.{Store}
 use Rattle.bench.specs.Memory.{memory, packedSession, packedStore}
 use Rattle.bench.specs.Outcome.{Does, Obeys, obey}

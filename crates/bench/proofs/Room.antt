@@ -19,7 +19,7 @@ use Rattle.paper.proofs.Invariant.{not-some}
 use Rattle.paper.proofs.Law.{and-left, and-right}
 use Rattle.paper.proofs.Test.{Held, held, either, tests}
 use Rattle.paper.proofs.Filled.{broken-cons, defined-more}
-use Rattle.line.specs.View.{width}
+use Rattle.command.specs.View.{width}
 use Rattle.set.specs.Taking.{answersText}
 
 -- the room that is left for a value: all of it, or none where it is defined

@@ -4,8 +4,8 @@ use mathlib.Core.Path.{_≡_}
 use mathlib.Core.List.{List}
 use Rattle.paper.specs.Bench as P
 use Rattle.paper.specs.State.{Led}
-use Rattle.line.specs.View.{width}
-use Rattle.line.specs.Normal.{Meets}
+use Rattle.command.specs.View.{width}
+use Rattle.command.specs.Answer.{Meets}
 use Rattle.bench.specs.Memory.{packedSession, packedStore}
 use Rattle.bench.specs.declared.Bench.{Bench}
 use Rattle.bench.specs.declared.Heard.{Heard}

@@ -12,9 +12,9 @@ use Rattle.paper.specs.Read.{command}
 use Rattle.paper.specs.Refusal as R
 use Rattle.paper.specs.Bench as P
 use Rattle.paper.specs.State.{Sane, Storable, fitting}
-use Rattle.line.specs.View.{width, viewOf, textIn, Holds}
-use Rattle.line.specs.Normal.{Meets}
-use Rattle.line.specs.declared.command.Command as L
+use Rattle.command.specs.View.{width, viewOf, textIn, Holds}
+use Rattle.command.specs.Answer.{Meets}
+use Rattle.command.specs.declared.Command as L
 use Rattle.text.specs.declared.read.Span.{Span}
 use Rattle.store.specs.Packed.{bytesAt}
 use Rattle.store.specs.declared.Store.{Store}

@@ -12,10 +12,10 @@ use Rattle.paper.specs.Refusal as R
 use Rattle.paper.specs.Bench as P
 use Rattle.paper.specs.Program.{enough}
 use Rattle.paper.specs.Calls.{Call, line, taking, quiet, order, setsFrom}
-use Rattle.line.specs.View.{width}
-use Rattle.line.specs.Normal.{Meets}
-use Rattle.line.specs.declared.command.Answer.{Answer}
-use Rattle.line.specs.declared.command.Answer.the-variants as A
+use Rattle.command.specs.View.{width}
+use Rattle.command.specs.Answer.{Meets}
+use Rattle.command.specs.declared.Answer.{Answer}
+use Rattle.command.specs.declared.Answer.the-variants as A
 use Rattle.bench.specs.Call.{Reached, Gives}
 use Rattle.bench.specs.declared.Bench.{Bench}
 use Rattle.bench.specs.declared.Heard.{Heard}

@@ -3,7 +3,7 @@ ghost use mathlib.Core.Path.{_≡_};
 ghost use lib.ListN.{length};
 ghost use Rattle.paper.specs.Bench as P;
 ghost use Rattle.paper.specs.Program.{toTake};
-ghost use Rattle.line.specs.View.{width};
+ghost use Rattle.command.specs.View.{width};
 ghost use Rattle.bench.specs.Call.{packedBench, Reached, Gives};
 
 pub mod answer;
@@ -22,7 +22,7 @@ use crate::state::Mode;
 use crate::state::Session;
 use crate::state::Step;
 use crate::state::fresh;
-use line::command::Answer;
+use command::Answer;
 use store::Store;
 
 // A bench by value. Its fields are its own: a bench is one that calls lead to.

@@ -18,8 +18,8 @@ use crate::state::Step;
 use crate::state::done;
 use crate::state::fresh;
 use crate::state::refuse;
-use line::command::Command;
-use line::command::Refusal;
+use command::Command;
+use command::Refusal;
 use line::read::read_line;
 use store::Store;
 

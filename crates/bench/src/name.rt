@@ -2,7 +2,7 @@
 ghost use Prim.Native.Nat.{_≤_};
 ghost use mathlib.Core.Path.{_≡_};
 ghost use lib.ListN.{length};
-ghost use Rattle.line.specs.View.{textIn, Holds};
+ghost use Rattle.command.specs.View.{textIn, Holds};
 ghost use Rattle.bench.specs.Memory.{named};
 use text::read::Span;
 use text::write::literal_at;

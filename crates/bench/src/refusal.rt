@@ -1,8 +1,8 @@
 // The refusals by their numbers.
 ghost use mathlib.Core.Path.{_≡_};
-ghost use Rattle.line.specs.View.{refusalOf};
+ghost use Rattle.command.specs.View.{refusalOf};
 ghost use Rattle.bench.specs.Numbered.{numberOf};
-use line::command::Refusal;
+use command::Refusal;
 
 // The number of a refusal.
 pub fn number_of(why: Refusal) -> usize

@@ -1,9 +1,9 @@
 // Bytes for a lent buffer, if they have room in it.
 ghost use lib.ListN.{length};
-ghost use Rattle.line.specs.Normal.{Meets};
+ghost use Rattle.command.specs.Answer.{Meets};
 ghost use Rattle.bench.specs.Outcome.{handed};
-use line::command::Answer;
-use line::command::Refusal;
+use command::Answer;
+use command::Refusal;
 use text::write::put_all;
 
 // The bytes at the front of the buffer, or refusal 15 where they have no room.

@@ -5,13 +5,13 @@ ghost use Prim.Native.Nat.{ℕ};
 ghost use Rattle.paper.specs.Bench as P;
 ghost use Rattle.paper.specs.Form.{Form};
 ghost use Rattle.paper.specs.Refusal as R;
-ghost use Rattle.line.specs.View.{refusalOf};
+ghost use Rattle.command.specs.View.{refusalOf};
 ghost use Rattle.bench.specs.Memory.{memory, packedSession, packedStore, named};
 ghost use Rattle.bench.specs.Outcome.{Does};
 ghost use Rattle.bench.specs.declared.state.Mode.{Mode};
 use crate::name::Name;
-use line::command::Answer;
-use line::command::Refusal;
+use command::Answer;
+use command::Refusal;
 use store::Store;
 
 // The states, with the numbers that each needs: the lines kept so far, the place behind the last definition that was

@@ -8,7 +8,7 @@ use crate::show::show_answer;
 use bench::Bench;
 use bench::Heard;
 use line::read::read_line;
-use line::write::write_line;
+use normal::write::write_line;
 
 // The calls that write into a buffer.
 pub enum Call {

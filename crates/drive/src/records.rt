@@ -2,15 +2,15 @@
 use crate::show::say;
 use crate::show::show;
 use crate::show::show_answer;
-use line::command::Bar;
-use line::command::Command;
-use line::command::Content;
-use line::command::Put;
-use line::command::Refusal;
-use line::command::Setting;
-use line::command::Step;
+use command::Bar;
+use command::Command;
+use command::Content;
+use command::Put;
+use command::Refusal;
+use command::Setting;
+use command::Step;
 use line::read::read_line;
-use line::write::write_line;
+use normal::write::write_line;
 use text::read::Span;
 
 // A record written, under its name.

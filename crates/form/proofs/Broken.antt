@@ -17,9 +17,9 @@ use Rattle.paper.specs.Write.{lineText}
 use Rattle.paper.specs.State.{allIn}
 use Rattle.paper.proofs.Law.{if-true, if-false}
 use Rattle.text.specs.Place.{from}
-use Rattle.line.specs.View.{width, viewOf, Stand}
+use Rattle.command.specs.View.{width, viewOf, Stand}
+use Rattle.command.specs.declared.Command.{Command}
 use Rattle.line.specs.Given.{IsRead}
-use Rattle.line.specs.declared.command.Command.{Command}
 use Rattle.form.specs.Walk.{firstLine, partOf}
 use Rattle.form.specs.Sound.{Agrees, Judges, lineNumber}
 use Rattle.form.specs.declared.check.Checked.{Checked}

@@ -16,10 +16,10 @@ use Rattle.paper.proofs.Part.{Back, number-back, digit-back, two-back, letter-b
 use Rattle.text.specs.Place.{byteAt, from, Says}
 use Rattle.text.specs.declared.read.Number.{Number}
 use Rattle.text.specs.declared.read.Number.the-variants.{Value, Bad}
-use Rattle.line.specs.View.{width, stepOf}
+use Rattle.command.specs.View.{width, stepOf}
+use Rattle.command.specs.declared.Step.{Step}
+use Rattle.command.specs.declared.Step.the-variants.{Up, Down}
 use Rattle.line.specs.Part.{saidStep}
-use Rattle.line.specs.declared.command.Step.{Step}
-use Rattle.line.specs.declared.command.Step.the-variants.{Up, Down}
 use Rattle.line.specs.declared.parts.StepRead.{StepRead}
 use Rattle.line.specs.declared.parts.StepRead.the-variants as S
 use Rattle.line.proofs.Chain.{number-got, number-bad}

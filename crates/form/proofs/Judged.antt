@@ -15,10 +15,10 @@ use Rattle.paper.specs.Command.{all, inRange, ranges, defineRanges}
 use Rattle.paper.specs.Form.{asked, valueOf, lenOf, defined, isSome, isSize, isDirection, drawing, inPlace, contentSound, drawSound, valueSound, rules}
 use Rattle.paper.specs.Read.{command}
 use Rattle.paper.proofs.Test.{held, tests}
-use Rattle.line.specs.View.{width, viewOf, barOf}
-use Rattle.line.specs.declared.command.Command.{Command}
-use Rattle.line.specs.declared.command.Command.the-variants as L
-use Rattle.line.proofs.command.Command as Tag
+use Rattle.command.specs.View.{width, viewOf, barOf}
+use Rattle.command.specs.declared.Command.{Command}
+use Rattle.command.specs.declared.Command.the-variants as L
+use Rattle.command.proofs.Command as Tag
 use Rattle.form.specs.Sound.{slotOf, Agrees, Judges}
 use Rattle.form.specs.declared.check.Checked.{Checked}
 use Rattle.form.proofs.Lines.{Keeps, kept}

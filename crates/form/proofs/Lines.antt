@@ -20,9 +20,9 @@ use Rattle.paper.proofs.Law.{if-true, if-false, by-test, and-left, and-right}
 use Rattle.paper.proofs.Test.{either}
 use Rattle.paper.proofs.RoundTrip.{normal-control, read-normal}
 use Rattle.text.specs.Place.{from}
-use Rattle.line.specs.View.{width, viewOf, Stand}
+use Rattle.command.specs.View.{width, viewOf, Stand}
+use Rattle.command.specs.declared.Command.{Command}
 use Rattle.line.specs.Given.{IsRead}
-use Rattle.line.specs.declared.command.Command.{Command}
 use Rattle.form.specs.Walk.{firstLine, partOf}
 
 -- the walk to a line's end: one byte more is no LF

@@ -18,8 +18,8 @@ use Rattle.paper.specs.Set.{fits}
 use Rattle.paper.specs.Write.{lineText}
 use Rattle.paper.specs.State.{allIn}
 use Rattle.text.specs.Place.{from}
-use Rattle.line.specs.View.{width}
-use Rattle.line.specs.declared.command.Step.{Step}
+use Rattle.command.specs.View.{width}
+use Rattle.command.specs.declared.Step.{Step}
 use Rattle.form.specs.Walk.{firstLine, partOf}
 use Rattle.form.specs.Asked.{defineOf, lineOf, nextOf}
 use Rattle.form.specs.declared.asked.Define.{Define}

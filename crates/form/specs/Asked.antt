@@ -4,8 +4,8 @@ use mathlib.Core.List.{List, [], _∷_}
 use lib.ListN.{length}
 use Rattle.paper.specs.Command as P
 use Rattle.paper.specs.Write.{lineText}
-use Rattle.line.specs.declared.command.Step.{Step}
-use Rattle.line.specs.declared.command.Step.the-variants.{Up, Down}
+use Rattle.command.specs.declared.Step.{Step}
+use Rattle.command.specs.declared.Step.the-variants.{Up, Down}
 use Rattle.form.specs.declared.asked.Define.{Define}
 use Rattle.form.specs.declared.asked.Define.the-variants.{Counter, Variable}
 use Rattle.form.specs.declared.asked.Line.{Line}

@@ -10,12 +10,12 @@ ghost use Rattle.paper.specs.Command.{all, inRange};
 ghost use Rattle.paper.specs.Form.{textOf, valueOf, lenOf, contentSound, unsoundAt};
 ghost use Rattle.paper.specs.Read.{command};
 ghost use Rattle.paper.specs.State.{allIn};
-ghost use Rattle.line.specs.View.{width, viewOf, contentOf, ContentStands, Stand};
+ghost use Rattle.command.specs.View.{width, viewOf, contentOf, ContentStands, Stand};
 ghost use Rattle.form.specs.Sound.{placeIn, slotOf, Agrees, Judges, lineNumber};
 use crate::walk::line_end;
-use line::command::Command;
-use line::command::Content;
-use line::range::beyond;
+use command::Command;
+use command::Content;
+use command::range::beyond;
 use line::read::read_line;
 
 // Whether a line keeps the rules, and the lens of the definitions with it: each counter's and then each variable's, 0 where

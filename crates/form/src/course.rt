@@ -6,7 +6,7 @@ ghost use Rattle.paper.specs.Command as P;
 ghost use Rattle.paper.specs.Form.{textOf};
 ghost use Rattle.paper.specs.State.{allIn};
 ghost use Rattle.text.specs.Place.{from};
-ghost use Rattle.line.specs.View.{width};
+ghost use Rattle.command.specs.View.{width};
 ghost use Rattle.form.specs.Asked.{nextOf};
 use crate::asked::Next;
 use crate::asked::next_asked;

@@ -10,13 +10,13 @@ use Rattle.paper.specs.Byte.{decimal}
 use Rattle.paper.specs.Refusal as R
 use Rattle.paper.specs.Program.{spaced, errOf}
 use Rattle.paper.proofs.Number.{decimal-within}
-use Rattle.line.specs.View.{refusalOf}
-use Rattle.line.specs.Normal.{Reports}
-use Rattle.line.proofs.command.Refusal as Tag
-use Rattle.line.specs.declared.command.Refusal.{Refusal}
-use Rattle.line.specs.declared.command.Refusal.the-variants as W
-use Rattle.line.specs.declared.command.Answer.{Answer}
-use Rattle.line.specs.declared.command.Answer.the-variants as A
+use Rattle.command.specs.View.{refusalOf}
+use Rattle.command.specs.Answer.{Reports}
+use Rattle.command.proofs.Refusal as Tag
+use Rattle.command.specs.declared.Refusal.{Refusal}
+use Rattle.command.specs.declared.Refusal.the-variants as W
+use Rattle.command.specs.declared.Answer.{Answer}
+use Rattle.command.specs.declared.Answer.the-variants as A
 use Rattle.text.specs.Write.{Writes}
 use Rattle.text.proofs.Written.{writes-none, writes-then}
 use Rattle.bench.specs.Numbered.{first, numberOf}

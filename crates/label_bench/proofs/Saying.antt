@@ -9,11 +9,11 @@ use Rattle.paper.specs.Refusal as R
 use Rattle.paper.specs.Bench.{Bench, Outcome, hear}
 use Rattle.paper.specs.Program.{enough, outOf}
 use Rattle.paper.proofs.Long.{hear-first}
-use Rattle.line.specs.View.{width}
-use Rattle.line.specs.Normal.{Reports}
-use Rattle.line.specs.declared.command.Refusal.{Refusal}
-use Rattle.line.specs.declared.command.Answer.{Answer}
-use Rattle.line.specs.declared.command.Answer.the-variants as A
+use Rattle.command.specs.View.{width}
+use Rattle.command.specs.Answer.{Reports}
+use Rattle.command.specs.declared.Refusal.{Refusal}
+use Rattle.command.specs.declared.Answer.{Answer}
+use Rattle.command.specs.declared.Answer.the-variants as A
 use Rattle.text.specs.Write.{written, Writes, padded}
 use Rattle.intake.specs.Waiting.{held}
 use Rattle.intake.specs.declared.Intake.{Intake}

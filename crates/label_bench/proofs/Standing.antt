@@ -14,7 +14,7 @@ use Rattle.paper.specs.Bench.{hear}
 use Rattle.paper.specs.State.{Led, hearing, taking}
 use Rattle.paper.specs.Program.{enough, toTake, afterTakes}
 use Rattle.paper.proofs.Test.{either}
-use Rattle.line.specs.View.{width}
+use Rattle.command.specs.View.{width}
 use Rattle.text.specs.Place.{from}
 use Rattle.text.specs.Write.{Writes}
 use Rattle.text.proofs.Written.{writes-length}

@@ -10,7 +10,7 @@ use Rattle.paper.specs.Bench as P
 use Rattle.paper.specs.Bench.{Outcome, hear}
 use Rattle.paper.specs.State.{Led}
 use Rattle.paper.specs.Program.{enough, outOf, errOf, toTake, afterTakes}
-use Rattle.line.specs.View.{width}
+use Rattle.command.specs.View.{width}
 use Rattle.text.specs.Write.{Writes}
 use Rattle.intake.specs.Waiting.{held}
 use Rattle.intake.specs.declared.Intake.{Intake}

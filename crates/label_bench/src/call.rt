@@ -5,14 +5,14 @@ ghost use lib.ListN.{length};
 ghost use Rattle.paper.specs.Refusal as R;
 ghost use Rattle.paper.specs.Bench as P;
 ghost use Rattle.paper.specs.Program.{enough, outOf};
-ghost use Rattle.line.specs.View.{width};
-ghost use Rattle.line.specs.Normal as N;
+ghost use Rattle.command.specs.View.{width};
+ghost use Rattle.command.specs.Answer as C;
 ghost use Rattle.bench.specs.Call.{Reached};
 ghost use Rattle.label_bench.specs.Said.{Waits, Says, Reports};
 use crate::report::put_refusal;
 use bench::Bench;
+use command::Answer;
 use intake::Intake;
-use line::command::Answer;
 
 // What a call leaves: the bench, and where the bytes that wait for each stream end.
 pub struct Called {
@@ -23,7 +23,7 @@ pub struct Called {
 
 // The bytes that an answer says it wrote.
 fn bytes_of(answer: Answer) -> usize
-    ensures { λ r. ⌜ ((p : R.Answer) → N.Reports answer p → r ≡ length (outOf p)) ⌝ }
+    ensures { λ r. ⌜ ((p : R.Answer) → C.Reports answer p → r ≡ length (outOf p)) ⌝ }
 {
     let Answer::Accepted { len } = answer else {
         return 0;

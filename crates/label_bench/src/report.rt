@@ -5,12 +5,12 @@ ghost use lib.ListN.{length};
 ghost use Rattle.paper.specs.Byte.{decimal};
 ghost use Rattle.paper.specs.Refusal as R;
 ghost use Rattle.paper.specs.Program.{errOf};
-ghost use Rattle.line.specs.View.{refusalOf};
-ghost use Rattle.line.specs.Normal.{Reports};
+ghost use Rattle.command.specs.View.{refusalOf};
+ghost use Rattle.command.specs.Answer.{Reports};
 ghost use Rattle.text.specs.Write.{Writes};
 use bench::refusal::number_of;
-use line::command::Answer;
-use line::command::Refusal;
+use command::Answer;
+use command::Refusal;
 use text::write::put;
 use text::write::put_decimal;
 

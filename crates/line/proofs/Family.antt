@@ -11,17 +11,17 @@ use Rattle.paper.specs.Command.{inRange, ranges, allOf, all, drawRanges, filing
 use Rattle.paper.specs.Read.{command}
 use Rattle.text.specs.Place.{from}
 use Rattle.text.specs.declared.read.Span.{Span}
-use Rattle.line.specs.View.{width, viewOf, Stand, Standing, textIn, barOf}
+use Rattle.command.specs.View.{width, viewOf, Stand, Standing, textIn, barOf}
+use Rattle.command.specs.declared.Bar.{Bar}
+use Rattle.command.specs.declared.Command.{Command}
+use Rattle.command.specs.declared.Command.the-variants.{Refused}
+use Rattle.command.specs.declared.Refusal.the-variants.{OutOfRange}
 use Rattle.line.specs.Given.{Gives}
 use Rattle.line.specs.Family.{penOf, drawn, filing, sent, starred}
-use Rattle.line.specs.declared.command.Bar.{Bar}
-use Rattle.line.specs.declared.command.Command.{Command}
 use Rattle.line.specs.declared.read.Pen.{Pen}
 use Rattle.line.specs.declared.read.Pen.the-variants.{Black, Flip, White}
 use Rattle.line.specs.declared.read.Errand.{Errand}
 use Rattle.line.specs.declared.read.Errand.the-variants.{Start, Recall, Delete}
-use Rattle.line.specs.declared.command.Command.the-variants.{Refused}
-use Rattle.line.specs.declared.command.Refusal.the-variants.{OutOfRange}
 use Rattle.line.proofs.Given.{gives-in, gives-out, end-here, end-in, end-out}
 
 -- a bar's ranges are those of any pen

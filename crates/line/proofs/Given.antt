@@ -23,15 +23,17 @@ use Rattle.text.specs.declared.read.Number.the-variants.{Value, Bad}
 use Rattle.text.specs.declared.read.Span.{Span}
 use Rattle.text.specs.declared.read.Quoted.{Quoted}
 use Rattle.text.specs.declared.read.Quoted.the-variants.{Held, Missing}
-use Rattle.line.specs.View.{width, refusalOf, viewOf, Stand, Standing, textIn, stepOf, settingOf, contentOf, Holds, ContentStands, ContentShown}
+use Rattle.command.specs.View.{width, refusalOf, viewOf, Stand, Standing, textIn, stepOf, settingOf, contentOf, Holds, ContentStands, ContentShown}
+use Rattle.command.specs.declared.Content.{Content}
+use Rattle.command.specs.declared.Setting.{Setting}
+use Rattle.command.specs.declared.Step.{Step}
+use Rattle.command.specs.declared.Command.{Command}
+use Rattle.command.specs.declared.Command.the-variants.{Counting, Varying, Refused}
+use Rattle.command.specs.declared.Refusal.the-variants.{Malformed, OutOfRange}
+use Rattle.command.proofs.Judge.{put-ranges}
+use Rattle.command.proofs.Held.{standing-shown, content-shown}
 use Rattle.line.specs.Part.{saidSetting, saidStep, saidContent, Found, ReadsContent, lastString, EndsAs, LastAt}
 use Rattle.line.specs.Given.{Gives}
-use Rattle.line.specs.declared.command.Content.{Content}
-use Rattle.line.specs.declared.command.Setting.{Setting}
-use Rattle.line.specs.declared.command.Step.{Step}
-use Rattle.line.specs.declared.command.Command.{Command}
-use Rattle.line.specs.declared.command.Command.the-variants.{Counting, Varying, Refused}
-use Rattle.line.specs.declared.command.Refusal.the-variants.{Malformed, OutOfRange}
 use Rattle.line.specs.declared.parts.SettingRead.{SettingRead}
 use Rattle.line.specs.declared.parts.SettingRead.the-variants as T
 use Rattle.line.specs.declared.parts.StepRead.{StepRead}
@@ -39,8 +41,6 @@ use Rattle.line.specs.declared.parts.StepRead.the-variants as S
 use Rattle.line.specs.declared.parts.ContentRead.{ContentRead}
 use Rattle.line.specs.declared.parts.ContentRead.the-variants as C
 use Rattle.line.proofs.Chain.{number-got, number-bad}
-use Rattle.line.proofs.Judge.{put-ranges}
-use Rattle.line.proofs.Held.{standing-shown, content-shown}
 
 -- what does not fit is malformed
 gives-bad : (s : List ℕ) (g : Got P.Command) → g ≡ bad → Gives s g (Refused Malformed)

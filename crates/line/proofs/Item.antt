@@ -21,7 +21,7 @@ use Rattle.text.proofs.Quote.{Stands, string-none, string-held, string-missing}
 use Rattle.text.specs.declared.read.Span.{Span}
 use Rattle.text.specs.declared.read.Quoted.{Quoted}
 use Rattle.text.specs.declared.read.Quoted.the-variants.{Held, Missing}
-use Rattle.line.specs.View.{textIn, Standing}
+use Rattle.command.specs.View.{textIn, Standing}
 use Rattle.line.specs.Part.{lastString, LastAt}
 
 -- a byte that is a sign

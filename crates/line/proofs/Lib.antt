@@ -1,15 +1,8 @@
+pub mod Control
 pub mod Letters
-pub mod Held
-pub mod Judge
-pub mod Name
 pub mod Chain
 pub mod Item
 pub mod Given
 pub mod Family
 pub mod Whole
-pub mod Piece
-pub mod Record
-pub mod Judged
-pub mod Lent
-pub mod RoundTrips
 pub mod Unique

@@ -16,18 +16,18 @@ use Rattle.text.specs.Place.{byteAt, from}
 use Rattle.text.specs.declared.read.Span.{Span}
 use Rattle.text.proofs.Place.{stands}
 use Rattle.text.proofs.Quote.{length-from}
-use Rattle.line.specs.View.{width, refusalOf, textIn, stepOf, contentOf, settingOf, barOf, putOf, viewOf, Standing, ContentStands, Stand}
+use Rattle.command.specs.View.{width, refusalOf, textIn, stepOf, contentOf, settingOf, barOf, putOf, viewOf, Standing, ContentStands, Stand}
+use Rattle.command.specs.Answer.{Reports}
+use Rattle.command.specs.declared.Refusal.{Refusal}
+use Rattle.command.specs.declared.Content.{Content}
+use Rattle.command.specs.declared.Content.the-variants as C
+use Rattle.command.specs.declared.Step.{Step}
+use Rattle.command.specs.declared.Step.the-variants as S
+use Rattle.command.specs.declared.Command.{Command}
+use Rattle.command.specs.declared.Command.the-variants as M
+use Rattle.command.specs.declared.Answer.the-variants as A
+use Rattle.command.proofs.Outcome.{meets-one}
 use Rattle.line.specs.Given.{IsRead}
-use Rattle.line.specs.Normal.{Reports}
-use Rattle.line.specs.declared.command.Refusal.{Refusal}
-use Rattle.line.specs.declared.command.Content.{Content}
-use Rattle.line.specs.declared.command.Content.the-variants as C
-use Rattle.line.specs.declared.command.Step.{Step}
-use Rattle.line.specs.declared.command.Step.the-variants as S
-use Rattle.line.specs.declared.command.Command.{Command}
-use Rattle.line.specs.declared.command.Command.the-variants as M
-use Rattle.line.specs.declared.command.Answer.the-variants as A
-use Rattle.line.proofs.RoundTrips.{meets-one}
 
 -- what each text behind a quote has, the one behind a quote at a place has
 behind-quote : (K : List ℕ → Type 0) (s : List ℕ) (at : ℕ) → All K (quotes s) → byteAt s at ≡ quote → K (from s (suc at))

@@ -14,14 +14,14 @@ use Rattle.paper.specs.Read.{shaped, shape, judged, read}
 use Rattle.paper.proofs.Law.{if-true, if-false}
 use Rattle.paper.proofs.Text.{clear-between, clear-control}
 use Rattle.text.specs.Place.{byteAt}
-use Rattle.line.specs.View.{refusalOf, viewOf, Stand}
+use Rattle.command.specs.View.{refusalOf, viewOf, Stand}
+use Rattle.command.specs.declared.Command.{Command}
+use Rattle.command.specs.declared.Command.the-variants.{Empty, Refused}
+use Rattle.command.specs.declared.Refusal.the-variants as W
 use Rattle.line.specs.Given.{Judges, IsRead}
 use Rattle.line.specs.Kind.{kindOf, shapeBy}
 use Rattle.line.specs.declared.kind.Kind.{Kind}
 use Rattle.line.specs.declared.kind.Kind.the-variants.{Unknown}
-use Rattle.line.specs.declared.command.Command.{Command}
-use Rattle.line.specs.declared.command.Command.the-variants.{Empty, Refused}
-use Rattle.line.specs.declared.command.Refusal.the-variants as W
 use Rattle.line.proofs.Letters.{by-kind}
 
 -- a record of a kind is the judgement of its shape

@@ -3,10 +3,10 @@ use Prim.Native.Nat.{ℕ}
 use mathlib.Core.List.{List}
 use Rattle.paper.specs.Command as P
 use Rattle.text.specs.declared.read.Span.{Span}
-use Rattle.line.specs.declared.command.Refusal.the-variants.{OutOfRange}
-use Rattle.line.specs.declared.command.Bar.{Bar}
-use Rattle.line.specs.declared.command.Command.{Command}
-use Rattle.line.specs.declared.command.Command.the-variants as M
+use Rattle.command.specs.declared.Refusal.the-variants.{OutOfRange}
+use Rattle.command.specs.declared.Bar.{Bar}
+use Rattle.command.specs.declared.Command.{Command}
+use Rattle.command.specs.declared.Command.the-variants as M
 use Rattle.line.specs.declared.read.Pen.{Pen}
 use Rattle.line.specs.declared.read.Pen.the-variants.{Black, Flip, White}
 use Rattle.line.specs.declared.read.Errand.{Errand}

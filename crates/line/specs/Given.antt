@@ -5,8 +5,8 @@ use mathlib.Core.List.{List}
 use Rattle.paper.specs.Line.{Got}
 use Rattle.paper.specs.Command as P
 use Rattle.paper.specs.Read.{Reading, Shape, judged, bodyShape, read}
-use Rattle.line.specs.View.{width, viewOf, Stand}
-use Rattle.line.specs.declared.command.Command.{Command}
+use Rattle.command.specs.View.{width, viewOf, Stand}
+use Rattle.command.specs.declared.Command.{Command}
 
 -- a record is a reading of a line
 pub record Reads (s : List ℕ) (reading : Reading) (r : Command) : Type 0 where

@@ -10,7 +10,7 @@ use Rattle.text.specs.Place.{from}
 use Rattle.text.specs.declared.read.Span.{Span}
 use Rattle.text.specs.declared.read.Quoted.{Quoted}
 use Rattle.text.specs.declared.read.Quoted.the-variants.{Held, Missing}
-use Rattle.line.specs.View.{textIn, stepOf, contentOf, settingOf, Standing, ContentStands}
+use Rattle.command.specs.View.{textIn, stepOf, contentOf, settingOf, Standing, ContentStands}
 use Rattle.line.specs.declared.parts.SettingRead.{SettingRead}
 use Rattle.line.specs.declared.parts.SettingRead.the-variants as T
 use Rattle.line.specs.declared.parts.StepRead.{StepRead}

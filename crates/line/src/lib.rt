@@ -1,8 +1,5 @@
-// A line of the profile: read to one command record or one refusal, and written in normal form.
+// A line of the profile: read to one command record or one refusal.
 pub mod clear;
-pub mod command;
 pub mod kind;
 pub mod parts;
-pub mod range;
 pub mod read;
-pub mod write;

@@ -14,9 +14,9 @@ use Rattle.paper.specs.Byte.{every, between, decimal}
 use Rattle.paper.specs.Line.{isDigit}
 use Rattle.paper.specs.Set.{amount, valueAt, holds, padded}
 use Rattle.paper.proofs.Law.{and-left, and-right}
-use Rattle.line.specs.View.{stepOf}
-use Rattle.line.specs.declared.command.Step.{Step}
-use Rattle.line.specs.declared.command.Step.the-variants.{Up, Down}
+use Rattle.command.specs.View.{stepOf}
+use Rattle.command.specs.declared.Step.{Step}
+use Rattle.command.specs.declared.Step.the-variants.{Up, Down}
 use Rattle.set.specs.Count.{sizeOf}
 use Rattle.text.specs.Write.{Writes}
 use Rattle.text.proofs.Written.{Writing, writing-begins, writing-turns, writing-room, writing-ends, writes-length}

@@ -14,8 +14,8 @@ use Rattle.paper.specs.Set.{amount, valueAt, fits}
 use Rattle.paper.specs.State.{fitting}
 use Rattle.paper.proofs.Law.{and-right}
 use Rattle.paper.proofs.Test.{held}
-use Rattle.line.specs.View.{stepOf}
-use Rattle.line.specs.declared.command.Step.{Step}
+use Rattle.command.specs.View.{stepOf}
+use Rattle.command.specs.declared.Step.{Step}
 use Rattle.form.specs.Walk.{partOf}
 use Rattle.form.specs.Asked.{defineOf, stepIn}
 use Rattle.form.specs.declared.asked.Define.{Define}

@@ -17,8 +17,8 @@ use Rattle.paper.specs.Set.{amount, holds, holdsTo, allHold, fits}
 use Rattle.paper.proofs.Law.{and-left, and-right}
 use Rattle.paper.proofs.Test.{Passed, held}
 use Rattle.text.specs.Place.{from}
-use Rattle.line.specs.View.{stepOf}
-use Rattle.line.specs.declared.command.Step.{Step}
+use Rattle.command.specs.View.{stepOf}
+use Rattle.command.specs.declared.Step.{Step}
 use Rattle.form.specs.Walk.{firstLine, partOf}
 use Rattle.form.specs.Asked.{defineOf, stepIn}
 use Rattle.form.specs.declared.asked.Define.{Define}

@@ -13,7 +13,7 @@ use Rattle.paper.specs.Command.{drawRanges, valueRange, allOf}
 use Rattle.paper.specs.Write.{lineText, valueText, two}
 use Rattle.paper.proofs.Number.{decimal-small}
 use Rattle.paper.proofs.Test.{Passed}
-use Rattle.line.specs.View.{width}
+use Rattle.command.specs.View.{width}
 use Rattle.set.specs.Ending.{valueEnding, endingOf}
 use Rattle.set.specs.declared.ending.Ending.{Ending}
 use Rattle.set.specs.declared.ending.Ending.the-variants.{Whole}

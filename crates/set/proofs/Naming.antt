@@ -14,7 +14,7 @@ use Rattle.paper.specs.Set.{filled, placed}
 use Rattle.paper.specs.Write.{commas, commaed, penText, lineText, drawText, settingText, contentText, valueText}
 use Rattle.paper.proofs.Test.{Passed, passed, held, held-right}
 use Rattle.text.proofs.Content.{escape-append}
-use Rattle.line.specs.View.{width}
+use Rattle.command.specs.View.{width}
 use Rattle.set.specs.Fill.{headText}
 use Rattle.set.specs.Showing.{shownLine}
 use Rattle.set.specs.Ending.{valueEnding, endingOf}

@@ -20,7 +20,7 @@ use Rattle.paper.proofs.Law.{and-left, and-right}
 use Rattle.paper.proofs.Number.{digits-decimal}
 use Rattle.text.specs.Write.{Writes}
 use Rattle.text.proofs.Content.{escape-append}
-use Rattle.line.specs.View.{width}
+use Rattle.command.specs.View.{width}
 use Rattle.set.specs.Fill.{headText}
 use Rattle.set.specs.Told.{countedLine, answeredLine, placeBegins, placeEnds}
 use Rattle.set.specs.Showing.{Drawing, drawingShown}

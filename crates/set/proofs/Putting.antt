@@ -24,7 +24,7 @@ use Rattle.paper.proofs.SetOf.{set-room}
 use Rattle.text.specs.Place.{from}
 use Rattle.text.specs.Write.{Writes}
 use Rattle.text.proofs.Written.{Writing, writing-begins, writing-turns, writing-room, writing-ends, writes-then}
-use Rattle.line.specs.View.{width}
+use Rattle.command.specs.View.{width}
 use Rattle.form.specs.Walk.{firstLine, partOf}
 use Rattle.form.specs.declared.asked.Define.{Define}
 use Rattle.form.specs.declared.asked.Line.{Line}

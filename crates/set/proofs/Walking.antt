@@ -19,7 +19,7 @@ use Rattle.paper.specs.Write.{lineText}
 use Rattle.paper.proofs.Law.{if-true, if-false, and-left, and-right}
 use Rattle.paper.proofs.Test.{either, clash}
 use Rattle.text.specs.Place.{from}
-use Rattle.line.specs.View.{width}
+use Rattle.command.specs.View.{width}
 use Rattle.form.specs.Walk.{firstLine, partOf}
 use Rattle.form.specs.Asked.{defineOf, lineOf}
 use Rattle.form.specs.declared.asked.Define.{Define}

@@ -1,7 +1,7 @@
 -- Counters in the code's words.
 use Prim.Native.Nat.{ℕ}
-use Rattle.line.specs.declared.command.Step.{Step}
-use Rattle.line.specs.declared.command.Step.the-variants.{Up, Down}
+use Rattle.command.specs.declared.Step.{Step}
+use Rattle.command.specs.declared.Step.the-variants.{Up, Down}
 
 -- how far a step goes, up or down
 unfoldable pub sizeOf : Step → ℕ

@@ -9,7 +9,7 @@ use Rattle.paper.specs.Command.{drawRanges, all, allOf}
 use Rattle.paper.specs.Form.{drawSound}
 use Rattle.paper.specs.Set.{valueIn, placed}
 use Rattle.paper.specs.Write.{lineText}
-use Rattle.line.specs.View.{width}
+use Rattle.command.specs.View.{width}
 use Rattle.set.specs.Told.{Told}
 use Rattle.set.specs.declared.values.Values.{Values}
 

@@ -10,7 +10,7 @@ use Rattle.paper.specs.Command.{FormLine, defineRanges, allOf}
 use Rattle.paper.specs.Form.{textOf, asked, valueOf, defined}
 use Rattle.paper.specs.State.{Storable, fitting, Printing}
 use Rattle.paper.specs.Set.{fits}
-use Rattle.line.specs.View.{width}
+use Rattle.command.specs.View.{width}
 use Rattle.form.specs.Asked.{defineOf}
 use Rattle.form.specs.declared.asked.Define.{Define}
 use Rattle.set.specs.Told.{Told}

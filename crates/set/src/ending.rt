@@ -5,7 +5,7 @@ ghost use mathlib.Core.Bool.{true};
 ghost use Rattle.paper.specs.Command as P;
 ghost use Rattle.paper.specs.Command.{drawRanges, allOf};
 ghost use Rattle.paper.specs.Write.{lineText};
-ghost use Rattle.line.specs.View.{width};
+ghost use Rattle.command.specs.View.{width};
 ghost use Rattle.set.specs.Ending.{valueEnding, endingOf};
 
 // How a line that draws goes into a set: whole, or with a value in place of its last bytes, `tail` of them; a value that

@@ -4,7 +4,7 @@ use native.Mathlib.Omega.{arith}
 use lib.ListN.{length}
 use borrow.Author.Needs.{needs}
 use Rattle.text.proofs.Written.{writes-length}
-use Rattle.line.proofs.Lent.{front-length}
+use Rattle.normal.proofs.Lent.{front-length}
 use Rattle.bench.proofs.Collecting.{size-short, reads-written, keeps-long, keeps-many, keeps-more}
 use Rattle.bench.proofs.collect.collect.Statement.{statement}
 use Rattle.bench.proofs.collect.collect.Tie as tie

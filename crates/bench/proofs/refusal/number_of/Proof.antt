@@ -1,7 +1,7 @@
 -- Each refusal has its number.
 use borrow.Author.Needs.{needs}
 use Rattle.paper.specs.Refusal.{figures}
-use Rattle.line.specs.View.{refusalOf}
+use Rattle.command.specs.View.{refusalOf}
 use Rattle.bench.specs.Numbered.{first, numberOf}
 use Rattle.bench.proofs.refusal.number_of.Statement.{statement}
 use Rattle.bench.proofs.refusal.number_of.Tie as tie

@@ -2,7 +2,7 @@
 use mathlib.Core.Path.{refl}
 use borrow.Author.Needs.{needs}
 use Rattle.paper.specs.Form.{valueOf, lenOf}
-use Rattle.line.specs.View.{viewOf, putOf, Stand}
+use Rattle.command.specs.View.{viewOf, putOf, Stand}
 use Rattle.form.specs.Sound.{slotOf}
 use Rattle.form.proofs.Lines.{Keeps}
 use Rattle.form.proofs.Judged.{judging, line-judged, define-judged, others-judged}

@@ -2,7 +2,7 @@
 use borrow.Author.Needs.{needs}
 use Rattle.paper.specs.Command.{all}
 use Rattle.paper.specs.Form.{contentSound}
-use Rattle.line.specs.View.{contentOf, ContentStands}
+use Rattle.command.specs.View.{contentOf, ContentStands}
 use Rattle.form.specs.Sound.{slotOf}
 use Rattle.form.proofs.Slots.{shown-sound, joined-sound}
 use Rattle.form.proofs.check.content_sound.Statement.{statement}

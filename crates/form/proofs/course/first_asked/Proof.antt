@@ -39,7 +39,7 @@ use denote.Triple.Clauses.{ensured, lasts}
 use Rattle.paper.specs.Command.{FormLine}
 use Rattle.paper.specs.Form.{textOf}
 use Rattle.paper.specs.State.{allIn}
-use Rattle.line.specs.View.{width}
+use Rattle.command.specs.View.{width}
 use Rattle.form.specs.Asked.{nextOf}
 use Rattle.form.specs.declared.course.Walk.{Walk}
 use Rattle.form.specs.declared.asked.Next.{Next}

@@ -2,7 +2,7 @@
 use native.Mathlib.Omega.{arith}
 use borrow.Author.Needs.{needs}
 use Rattle.paper.specs.Bench.{hear}
-use Rattle.line.specs.View.{width}
+use Rattle.command.specs.View.{width}
 use Rattle.bench.specs.Call.{Reached}
 use Rattle.label_bench.specs.Said.{Waits}
 use Rattle.label_bench.proofs.Saying.{line-inside, line-size, gives-line, gives-enough, says-lent, lent-fits}

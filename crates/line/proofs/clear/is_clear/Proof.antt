@@ -7,7 +7,7 @@ use lib.ListN.{length, drop}
 use borrow.Author.Needs.{needs}
 use Rattle.paper.specs.Byte.{every}
 use Rattle.paper.specs.Command.{isShown}
-use Rattle.line.proofs.Held.{shown-turns, shown-ends, control-here}
+use Rattle.line.proofs.Control.{shown-turns, shown-ends, control-here}
 use Rattle.line.proofs.clear.is_clear.Statement.{statement}
 use Rattle.line.proofs.clear.is_clear.Tie as tie
 

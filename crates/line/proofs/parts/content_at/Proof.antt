@@ -1,7 +1,7 @@
 -- `content_at` says what `content` reads: no string and a value, or a string with nothing or a value behind it.
 use borrow.Author.Needs.{needs}
 use native.Mathlib.Omega.{arith}
-use Rattle.line.specs.View.{contentOf, ContentStands}
+use Rattle.command.specs.View.{contentOf, ContentStands}
 use Rattle.line.specs.Part.{saidContent, Found}
 use Rattle.line.proofs.Chain.{chain}
 use Rattle.line.proofs.Item.{contents, standing}

@@ -1,6 +1,6 @@
 -- `look_at` says what `look` reads: four parts in a chain, each read or missing.
 use borrow.Author.Needs.{needs}
-use Rattle.line.specs.View.{settingOf}
+use Rattle.command.specs.View.{settingOf}
 use Rattle.line.specs.Part.{saidSetting, look}
 use Rattle.line.proofs.Chain.{chain}
 use Rattle.line.proofs.parts.look_at.Statement.{statement}

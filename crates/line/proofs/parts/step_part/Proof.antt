@@ -2,7 +2,7 @@
 use borrow.Author.Needs.{needs}
 use native.Mathlib.Omega.{arith}
 use Rattle.text.proofs.Place.{stands}
-use Rattle.line.specs.View.{stepOf}
+use Rattle.command.specs.View.{stepOf}
 use Rattle.line.specs.Part.{saidStep}
 use Rattle.line.proofs.Chain.{chain}
 use Rattle.line.proofs.Item.{stepping}

@@ -1,7 +1,7 @@
 -- `direction_line` gives what `directionLine` reads: a letter, the end of the line, and the range.
 use borrow.Author.Needs.{needs}
 use Rattle.paper.specs.Read.{directionLine}
-use Rattle.line.specs.View.{viewOf, Stand}
+use Rattle.command.specs.View.{viewOf, Stand}
 use Rattle.line.proofs.Given.{lines}
 use Rattle.line.proofs.read.direction_line.Statement.{statement}
 use Rattle.line.proofs.read.direction_line.Tie as tie

@@ -1,6 +1,6 @@
 -- `print_of` gives a print in its ranges, and else that it is out of them.
 use borrow.Author.Needs.{needs}
-use Rattle.line.specs.View.{viewOf, Stand}
+use Rattle.command.specs.View.{viewOf, Stand}
 use Rattle.line.proofs.Given.{gives-in, gives-out, told}
 use Rattle.line.proofs.read.print_of.Statement.{statement}
 use Rattle.line.proofs.read.print_of.Tie as tie

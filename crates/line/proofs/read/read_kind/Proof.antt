@@ -3,7 +3,7 @@ use borrow.Author.Needs.{needs}
 use mathlib.Core.Path.{refl}
 use Rattle.paper.specs.Command as P
 use Rattle.paper.specs.Command.{inRange, ranges, filingRanges, allOf}
-use Rattle.line.specs.View.{viewOf, Stand}
+use Rattle.command.specs.View.{viewOf, Stand}
 use Rattle.line.specs.Kind.{shapeBy}
 use Rattle.line.specs.Family.{penOf, filing}
 use Rattle.line.proofs.Whole.{kind-gives, kind-none}

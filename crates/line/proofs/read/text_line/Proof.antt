@@ -1,7 +1,7 @@
 -- `text_line` gives what `textLine` reads: the setting and the content, the end of the line, and the ranges of both.
 use borrow.Author.Needs.{needs}
 use Rattle.paper.specs.Read.{textLine}
-use Rattle.line.specs.View.{putOf, viewOf, Stand}
+use Rattle.command.specs.View.{putOf, viewOf, Stand}
 use Rattle.line.proofs.Given.{lines, putting}
 use Rattle.line.proofs.read.text_line.Statement.{statement}
 use Rattle.line.proofs.read.text_line.Tie as tie

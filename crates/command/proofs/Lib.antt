@@ -1,0 +1,4 @@
+pub mod Held
+pub mod Judge
+pub mod Name
+pub mod Outcome

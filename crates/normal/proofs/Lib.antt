@@ -1,0 +1,5 @@
+pub mod Piece
+pub mod Record
+pub mod Judged
+pub mod Lent
+pub mod RoundTrips

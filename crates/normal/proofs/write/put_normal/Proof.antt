@@ -1,0 +1,88 @@
+-- `put_normal` writes the normal form of a record, case by case.
+use borrow.Author.Needs.{needs}
+use Rattle.paper.specs.Byte.{bytes}
+use Rattle.paper.specs.Write.{normal, lineText, drawText, defineText, filingText, penText}
+use Rattle.command.specs.View.{viewOf, barOf}
+use Rattle.normal.specs.Normal.{recordHeld, readingText, barText, nameText}
+use Rattle.normal.proofs.Piece.{writes-is, writes-empty}
+use Rattle.normal.proofs.Record.{line-room, view-is, record-closes, direction-small, varying-small, text-held, text-in}
+use Rattle.normal.proofs.write.put_normal.Statement.{statement}
+use Rattle.normal.proofs.write.put_normal.Tie as tie
+
+pub put-normal-spec : {M : Type 1} → statement M
+unfolding viewOf readingText normal lineText drawText defineText filingText penText barOf barText nameText bytes recordHeld
+put-normal-spec =
+    tie.close
+    (tie.spec
+    (λ c. search needs)
+    (λ c. search needs)
+    (λ c κs. search needs)
+    (λ c. search needs)
+    (λ c κs. search needs)
+    (λ c. search needs)
+    (λ c κs. search needs)
+    (λ c. search needs)
+    (λ c κs. search needs)
+    (λ c. search needs)
+    (λ c κs. search (line-room, view-is))
+    (λ c. search needs)
+    (λ c κs. (search (line-room, view-is), search direction-small))
+    (λ c. search needs)
+    (λ c κs. (search (line-room, view-is), (search text-held, search text-in)))
+    (λ c. search needs)
+    (λ c κs. search (line-room, view-is))
+    (λ c. search needs)
+    (λ c κs. search (line-room, view-is))
+    (λ c. search needs)
+    (λ c κs. search (line-room, view-is))
+    (λ c. search needs)
+    (λ c κs. search (line-room, view-is))
+    (λ c. search needs)
+    (λ c κs. (search (line-room, view-is), search record-closes))
+    (λ c. search needs)
+    (λ c κs. (search (line-room, view-is), (search record-closes, search varying-small)))
+    (λ c. search needs)
+    (λ c κs. (search (line-room, view-is), search record-closes))
+    (λ c. search needs)
+    (λ c κs. (search (line-room, view-is), search record-closes))
+    (λ c. search needs)
+    (λ c κs. (search (line-room, view-is), search record-closes))
+    (λ c. search needs)
+    (λ c κs. search (line-room, view-is))
+    (λ c. search needs)
+    (λ c. search (writes-empty, view-is))
+    (λ c. search needs)
+    (λ c. search (writes-is, view-is))
+    (λ c. search needs)
+    (λ c. search (writes-is, view-is))
+    (λ c. search needs)
+    (λ c. search (writes-is, view-is))
+    (λ c. search needs)
+    (λ c. search (writes-is, view-is))
+    (λ c. search needs)
+    (λ c. search (writes-is, view-is))
+    (λ c. search needs)
+    (λ c. search (writes-is, view-is))
+    (λ c. search needs)
+    (λ c. search (writes-is, view-is))
+    (λ c. search needs)
+    (λ c. search (writes-is, view-is))
+    (λ c. search needs)
+    (λ c. search (writes-is, view-is))
+    (λ c. search needs)
+    (λ c. search (writes-is, view-is))
+    (λ c. search needs)
+    (λ c. search (writes-is, view-is))
+    (λ c. search needs)
+    (λ c. search (writes-is, view-is))
+    (λ c. search needs)
+    (λ c. search (writes-is, view-is))
+    (λ c. search needs)
+    (λ c. search (writes-is, view-is))
+    (λ c. search needs)
+    (λ c. search (writes-is, view-is))
+    (λ c. search needs)
+    (λ c. search (writes-is, view-is))
+    (λ c. search needs)
+    (λ c. search (writes-is, view-is))
+    (λ c. search (writes-empty, view-is)))

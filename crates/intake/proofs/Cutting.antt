@@ -14,7 +14,7 @@ use Rattle.paper.proofs.Law.{if-true, if-false, by-test, and-left, and-right}
 use Rattle.paper.proofs.Test.{either}
 use Rattle.paper.proofs.Text.{every-append}
 use Rattle.text.specs.Place.{from}
-use Rattle.intake.specs.Waiting.{held, Piece, line, waits, feed, Feeds}
+use Rattle.intake.specs.Waiting.{Waits, Piece, line, waits, feed, Gives, Starts, Feeds, Keeps, Counts}
 use Rattle.intake.specs.declared.Intake.{Intake}
 use Rattle.intake.specs.declared.Fed.{Fed}
 
@@ -95,6 +95,14 @@ feed-on (b ∷ s) t w = go (feed-on s t w) (feed-on s t (w ++ (b ∷ [])))
         (λ y. rw y refl)
         (λ n. either (isDropped b) (λ d. rw (n, d) dropped) (λ k. rw (n, k) joined))
 
+-- so a line that has ended stays the line that it was
+pub feed-on-line : (s t w u rest : List ℕ) → feed w s ≡ line u rest → feed w (s ++ t) ≡ line u (rest ++ t)
+feed-on-line s t w u rest e = let on : On t (line u rest) (feed w (s ++ t)) = rw e at (feed-on s t w) in on
+
+-- and bytes that wait go on waiting
+pub feed-on-waits : (s t w u : List ℕ) → feed w s ≡ waits u → feed w (s ++ t) ≡ feed u t
+feed-on-waits s t w u e = let on : On t (waits u) (feed w (s ++ t)) = rw e at (feed-on s t w) in on
+
 -- places that leave the same are one
 same-place : (input : List ℕ) (i j : ℕ) → i ≤ length input → j ≤ length input → from input i ≡ from input j → i ≡ j
 unfolding from
@@ -105,20 +113,26 @@ fed : {r r′ : Fed} → r .intake ≡ r′ .intake → r .next ≡ r′ .next �
 fed {r} {r′} a b c = λ i. record { intake = a i; next = b i; ended = c i }
 
 -- one piece of input has one answer
-feeds-one : (input : List ℕ) (piece : Piece) (r r′ : Fed) → Feeds input piece r → Feeds input piece r′ → r ≡ r′
-unfolding Feeds
-feeds-one input (line w rest) r r′ p q =
-    let a : r .intake ≡ r′ .intake = p .0 ∙ sym (q .0) in
-    let b : r .ended ≡ r′ .ended = p .1 ∙ sym (q .1) in
-    let c : r .next ≡ r′ .next = same-place input (r .next) (r′ .next) (p .3) (q .3) (p .2 ∙ sym (q .2)) in
-    fed a c b
-feeds-one input (waits w) r r′ p q = fed (p .0 ∙ sym (q .0)) (p .2 ∙ sym (q .2)) (p .1 ∙ sym (q .1))
+gives-one : (input : List ℕ) (piece : Piece) (r r′ : Fed) → Gives input piece r → Gives input piece r′ → r ≡ r′
+unfolding Gives
+gives-one input (line w rest) r r′ p q =
+    fed (p .0 ∙ sym (q .0)) (same-place input (r .next) (r′ .next) (p .3) (q .3) (p .2 ∙ sym (q .2))) (p .1 ∙ sym (q .1))
+gives-one input (waits w) r r′ p q = fed (p .0 ∙ sym (q .0)) (p .2 ∙ sym (q .2)) (p .1 ∙ sym (q .1))
 
 -- `feed` has one outcome
-pub feed-unique : (self : Intake) (w input : List ℕ) (at : ℕ) (r r′ : Fed) → self ≡ held w
-    → ((w : List ℕ) → self ≡ held w → Feeds input (feed w (from input at)) r) → ((w : List ℕ) → self ≡ held w → Feeds input (feed w (from input at)) r′) → r ≡ r′
-feed-unique self w input at r r′ e p q = feeds-one input (feed w (from input at)) r r′ (p w e) (q w e)
+pub feed-unique : (self : Intake) → Waits self → (input : List ℕ) (at : ℕ) (r r′ : Fed) → Feeds self input at r → Feeds self input at r′ → r ≡ r′
+feed-unique self w input at r r′ p q = gives-one input (feed (w .line) (from input at)) r r′ (p .gives w) (q .gives w)
 
 -- and so has `new`
-pub new-intake-unique : (r r′ : Intake) → r ≡ held [] → r′ ≡ held [] → r ≡ r′
-new-intake-unique r r′ p q = p ∙ sym q
+pub new-intake-unique : (r r′ : Intake) → Starts r → Starts r′ → r ≡ r′
+new-intake-unique r r′ p q = p .is ∙ sym (q .is)
+
+-- and so have `bytes`
+pub bytes-unique : (self : Intake) → Waits self → (r r′ : List ℕ) → Keeps self r → Keeps self r′ → r ≡ r′
+unfolding Keeps
+bytes-unique self w r r′ p q = p w ∙ sym (q w)
+
+-- and `len`
+pub len-unique : (self : Intake) → Waits self → (r r′ : ℕ) → Counts self r → Counts self r′ → r ≡ r′
+unfolding Counts
+len-unique self w r r′ p q = p w ∙ sym (q w)

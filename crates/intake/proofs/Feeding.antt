@@ -14,7 +14,7 @@ use Rattle.text.specs.Place.{from}
 use Rattle.text.proofs.Quote.{from-cons}
 use Rattle.text.specs.Write.{padded}
 use Rattle.text.proofs.Padded.{padded-set}
-use Rattle.intake.specs.Waiting.{held, Piece, line, waits, feed, Feeds}
+use Rattle.intake.specs.Waiting.{held, Waits, Piece, line, waits, feed, Gives, Feeds}
 use Rattle.intake.specs.declared.Intake.{Intake}
 
 -- as many bytes are kept as wait, up to 257
@@ -59,20 +59,28 @@ pub record Going (input : List ℕ) (whole : Piece) (intake : Intake) (i : ℕ) 
 
 -- so it is whatever waited at the start
 pub record Goes (input : List ℕ) (at : ℕ) (first intake : Intake) (i : ℕ) : Type 0 where
-  pub go : (w : List ℕ) → first ≡ held w → Going input (feed w (from input at)) intake i
+  pub began : Waits first
+  pub go : (w : Waits first) → Going input (feed (w .line) (from input at)) intake i
 
-pub goes-begins : (input : List ℕ) (at : ℕ) (first : Intake) → Goes input at first first at
-goes-begins input at first = record { go = λ w e. record { waiting = w; is = e; left = refl } }
+pub goes-begins : (input : List ℕ) (at : ℕ) (first : Intake) → Waits first → Goes input at first first at
+goes-begins input at first b = record { began = b; go = λ w. record { waiting = w .line; is = w .is; left = refl } }
+
+-- bytes wait
+goes-holds : {input : List ℕ} {at : ℕ} {first intake : Intake} {i : ℕ} → Goes input at first intake i → Waits intake
+goes-holds g = let now′ = g .go (g .began) in record { line = now′ .waiting; is = now′ .is }
 
 -- a line ends
 pub goes-line : (input : List ℕ) (at : ℕ) (first intake : Intake) (i : ℕ) → Goes input at first intake i → i < length input → getD input i 0 ≡ 10
-    → (w : List ℕ) → first ≡ held w → Feeds input (feed w (from input at)) (record { intake = intake; next = i + 1; ended = true })
-unfolding feed Feeds if_then_else_
-goes-line input at first intake i g h b w e =
-    let now′ = g .go w e in
-    let is : feed w (from input at) ≡ line (now′ .waiting) (from input (i + 1)) =
-    now′ .left ∙ rw (from-cons input i h, b) in
-    rw is (now′ .is, refl, refl, omega arith)
+    → Feeds first input at (record { intake = intake; next = i + 1; ended = true })
+unfolding feed Gives if_then_else_
+goes-line input at first intake i g h b =
+    record {
+      waits = goes-holds g;
+      gives = λ w.
+          let now′ = g .go w in
+          let is : feed (w .line) (from input at) ≡ line (now′ .waiting) (from input (i + 1)) = now′ .left ∙ rw (from-cons input i h, b) in
+          rw is (now′ .is, refl, refl, omega arith);
+    }
 
 -- a byte is dropped
 drops : (input : List ℕ) (at : ℕ) (first intake : Intake) (i : ℕ) → Goes input at first intake i → i < length input
@@ -80,8 +88,9 @@ drops : (input : List ℕ) (at : ℕ) (first intake : Intake) (i : ℕ) → Goes
 unfolding feed
 drops input at first intake i g h n d =
     record {
-      go = λ w e.
-          let now′ = g .go w e in
+      began = g .began;
+      go = λ w.
+          let now′ = g .go w in
           record {
             waiting = now′ .waiting;
             is = now′ .is;
@@ -106,8 +115,9 @@ goes-on : (input : List ℕ) (at : ℕ) (first intake r : Intake) (i : ℕ) → 
 unfolding feed isDropped
 goes-on input at first intake r i g h n m k more =
     record {
-      go = λ w e.
-          let now′ = g .go w e in
+      began = g .began;
+      go = λ w.
+          let now′ = g .go w in
           record {
             waiting = now′ .waiting ++ (getD input i 0 ∷ []);
             is = more (now′ .waiting) (now′ .is);
@@ -132,9 +142,13 @@ goes-full input at first bytes len i g h n m k many = goes-on input at first _ _
 
 -- the piece ends
 pub goes-waits : (input : List ℕ) (at : ℕ) (first intake : Intake) (i : ℕ) → Goes input at first intake i → length input ≤ i
-    → (w : List ℕ) → first ≡ held w → Feeds input (feed w (from input at)) (record { intake = intake; next = length input; ended = false })
-unfolding feed Feeds from
-goes-waits input at first intake i g h w e =
-    let now′ = g .go w e in
-    let is : feed w (from input at) ≡ waits (now′ .waiting) = now′ .left ∙ rw (drop-of-length-le input {i = i} h) in
-    rw is (now′ .is, refl, refl)
+    → Feeds first input at (record { intake = intake; next = length input; ended = false })
+unfolding feed Gives from
+goes-waits input at first intake i g h =
+    record {
+      waits = goes-holds g;
+      gives = λ w.
+          let now′ = g .go w in
+          let is : feed (w .line) (from input at) ≡ waits (now′ .waiting) = now′ .left ∙ rw (drop-of-length-le input {i = i} h) in
+          rw is (now′ .is, refl, refl);
+    }

@@ -1,6 +1,6 @@
 pub mod Reporting
 pub mod Saying
-pub mod Spacing
-pub mod Coming
-pub mod Standing
-pub mod Running
+pub mod Emitting
+pub mod Filling
+pub mod Passing
+pub mod Chain

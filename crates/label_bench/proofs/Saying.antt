@@ -15,11 +15,11 @@ use Rattle.command.specs.declared.Refusal.{Refusal}
 use Rattle.command.specs.declared.Answer.{Answer}
 use Rattle.command.specs.declared.Answer.the-variants as A
 use Rattle.text.specs.Write.{written, Writes, padded}
-use Rattle.intake.specs.Waiting.{held}
+use Rattle.intake.specs.Waiting.{Waits, Keeps, Counts}
 use Rattle.intake.specs.declared.Intake.{Intake}
 use Rattle.bench.specs.Call.{Gives}
 use Rattle.bench.specs.declared.Heard.{Heard}
-use Rattle.label_bench.specs.Said.{Waits, Says}
+use Rattle.label_bench.specs.Said.{Says}
 
 -- the bytes of an accepted answer
 pub bytes-some : (answer : Answer) (len : ℕ) → answer ≡ A.Accepted len → (p : R.Answer) → Reports answer p → len ≡ length (outOf p)
@@ -94,21 +94,19 @@ kept-inside : (n : ℕ) (w : List ℕ) → length (take n w) ≤ length (padded 
 unfolding padded
 kept-inside n w = rw length-append (omega arith)
 
--- and so do those of an intake
-pub line-inside : (line : Intake) → Waits line → line .len ≤ length (line .bytes)
-unfolding held
-line-inside line w = rw (w .is) (kept-inside 257 (w .line))
+-- the bytes that an intake keeps of its line, and how many they are
+module _ (line : Intake) (bytes : List ℕ) (len : ℕ) (k : Keeps line bytes) (n : Counts line len) where
+  -- they lie within their buffer
+  pub line-inside : Waits line → len ≤ length bytes
+  unfolding Keeps Counts
+  line-inside w = rw (k w, n w) (kept-inside 257 (w .line))
 
--- as many as the intake says
-pub line-size : (line : Intake) → Waits line → line .len ≡ length (take (line .len) (line .bytes))
-line-size line w = sym (length-take-le (line .len) (line .bytes) (line-inside line w))
+  -- as many as the intake says
+  pub line-size : Waits line → len ≡ length (take len bytes)
+  line-size w = sym (length-take-le len bytes (line-inside w))
 
--- what is kept of a line is its first 257 bytes
-line-kept : (line : Intake) (w : List ℕ) → line ≡ held w → take (line .len) (line .bytes) ≡ take 257 w
-unfolding held
-line-kept line w e = rw e (kept-bytes 257 w)
-
--- and is heard as the line
-pub gives-line : (line : Intake) (w : Waits line) (b : Bench) (room : ℕ) (old new : List ℕ) (heard : Heard)
-    → Gives (hear width room b (take (line .len) (line .bytes))) old new heard → Gives (hear width room b (w .line)) old new heard
-gives-line line w b room old new heard g = rw (line-kept line (w .line) (w .is), hear-first width room b (w .line)) at g
+  -- and are heard as the line
+  pub gives-line : (w : Waits line) (b : Bench) (room : ℕ) (old new : List ℕ) (heard : Heard)
+      → Gives (hear width room b (take len bytes)) old new heard → Gives (hear width room b (w .line)) old new heard
+  unfolding Keeps Counts
+  gives-line w b room old new heard g = rw (k w, n w, kept-bytes 257 (w .line), hear-first width room b (w .line)) at g

@@ -1,1 +1,4 @@
 pub mod Said
+pub mod Emit
+pub mod Fill
+pub mod Chain

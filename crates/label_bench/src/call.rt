@@ -8,11 +8,18 @@ ghost use Rattle.paper.specs.Program.{enough, outOf};
 ghost use Rattle.command.specs.View.{width};
 ghost use Rattle.command.specs.Answer as C;
 ghost use Rattle.bench.specs.Call.{Reached};
-ghost use Rattle.label_bench.specs.Said.{Waits, Says, Reports};
+ghost use Rattle.intake.specs.Waiting.{Waits};
+ghost use Rattle.label_bench.specs.Said.{Says, Reports};
 use crate::report::put_refusal;
 use bench::Bench;
 use command::Answer;
 use intake::Intake;
+
+// Room for any reply or set: the paper's `enough`.
+pub const REPLY_ROOM: usize = 10291;
+
+// Room for any refusal: at most three numbers of 20 digits, each with a byte behind it.
+pub const REFUSAL_ROOM: usize = 64;
 
 // What a call leaves: the bench, and where the bytes that wait for each stream end.
 pub struct Called {
@@ -48,9 +55,9 @@ pub fn hear_line(
     ensures { λ r. ⌜ ((b : Reached bench) (w : Waits line) → Says (P.hear width enough (b .paper) (w .line)) (now (out .entry)) at (now (out .exit)) r) ⌝ }
     ensures { λ r. ⌜ ((b : Reached bench) (w : Waits line) → Reports (P.hear width enough (b .paper) (w .line)) k (now (err .entry)) place (now (err .exit)) r) ⌝ }
 {
-    let bytes = line.bytes;
-    let len = line.len;
-    let end = at + 10291;
+    let bytes = line.bytes();
+    let len = line.len();
+    let end = at + REPLY_ROOM;
     let heard = bench.hear(&bytes[..len], &mut out[at..end]);
     let answer = heard.answer;
     let bench = heard.bench;
@@ -68,7 +75,7 @@ pub fn take_set(bench: Bench, out: &mut [u8], at: usize) -> Called
     ensures { λ r. ⌜ Reached (r .bench) ⌝ }
     ensures { λ r. ⌜ ((b : Reached bench) → Says (P.takeSet enough (b .paper)) (now (out .entry)) at (now (out .exit)) r) ⌝ }
 {
-    let end = at + 10291;
+    let end = at + REPLY_ROOM;
     let taken = bench.take(&mut out[at..end]);
     let answer = taken.answer;
     let bench = taken.bench;

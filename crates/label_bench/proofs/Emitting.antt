@@ -59,7 +59,7 @@ runs-line : (b : Bench) (n : ℕ) (w : List ℕ) (ss : List (List ℕ))
 unfolding runs joined heardSays setsSay heard settled
 runs-line b n w ss = rw (add-one (n + 1), append-assoc)
 
--- the run from a line on, by the lines as the paper cuts them
+-- reading on in the middle of a line: what is written is the paper's run of the lines that this input completes
 emit-runs : (b : Bench) (n : ℕ) (s w : List ℕ) → every inside w ≡ true → emit (resting b w n) s ≡ runs width (n + 1) b (cut (w ++ kept s))
 unfolding emit settled setsSay takes afterTakes heard step stepSays waiting if_then_else_ every
 emit-runs b n [] w e = rw (kept-none, append-nil w, cut-none w e, runs-none b (n + 1))

@@ -55,7 +55,7 @@ leads-then l m =
       says = λ more. l .says more ∙ ap (joined (l .said)) (m .says more) ∙ sym (joined-assoc (l .said) (m .said) _);
     }
 
--- a bench has fewer than 65,536 sets to give
+-- `P` asks for at most 65,535 sets, so no more are ever due
 due-few : (forms : List Form) (s : P.Session) → Sound width forms s → toTake s ≤ 65535
 unfolding toTake
 due-few forms P.idle h = omega arith

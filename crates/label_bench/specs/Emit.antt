@@ -1,4 +1,4 @@
--- What a piece of input adds to both outputs, from where a run stands.
+-- The output of a run, piece of input by piece: what is written next depends on where the run stands.
 use Prim.Native.Nat.{ℕ, _+_, _-_}
 use mathlib.Core.List.{List, [], _∷_, _++_}
 use lib.Dec.{eqb}

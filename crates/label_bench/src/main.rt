@@ -31,7 +31,7 @@ struct Passed {
     going: bool,
 }
 
-// A piece of input: the buffers are filled and written out until it is used up.
+// Obeys a whole piece of input, and empties both buffers into their streams whenever one of them is full, and at the end.
 fn pass(run: Run, input: &[u8], out: &mut [u8], err: &mut [u8]) -> Passed
     requires { ⌜ Stands run ⌝ }
     requires { ⌜ (10291 ≤ length (now out)) × (64 ≤ length (now err)) ⌝ }

@@ -1,4 +1,4 @@
--- Each turn fills the buffers and writes them out.
+-- The loop keeps where the run stands behind what was written out so far.
 use mathlib.Core.Path.{sym}
 use native.Mathlib.Omega.{arith}
 use lib.ListN.{length}

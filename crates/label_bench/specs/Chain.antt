@@ -1,4 +1,4 @@
--- A whole run, by steps that keep the promises of the loops.
+-- What steps that keep the promises of the loops say together, one behind the other.
 use Prim.Native.Nat.{ℕ}
 use mathlib.Core.Path.{_≡_}
 use mathlib.Core.List.{List, [], _++_}

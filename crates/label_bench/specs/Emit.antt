@@ -43,7 +43,7 @@ heardSays s w =
 unfoldable pub taken : Standing → Standing
 taken s = record { bench = takeSet enough (s .bench) .next; wait = s .wait; lines = s .lines; left = s .left - 1 }
 
--- and what it adds; no take is refused where one is made
+-- and what it adds to standard output; a refusal of it would add nothing, as in the paper's `takes`
 unfoldable pub takenSays : Standing → Output
 takenSays s = record { out = outOf (takeSet enough (s .bench) .answer); err = [] }
 

@@ -1,4 +1,5 @@
--- What the loops promise: which bytes stand behind those that wait, where the run stands then, and why it stopped.
+-- What the loops promise. `step` and `fill`: which bytes stand behind those that wait, where the run stands then, and why it stopped.
+-- `pass` and `obey`, which write: what was to be said and where the run stands, and nothing of the streams that it went to.
 use Prim.Native.Nat.{ℕ, _+_, _-_, _*_, _≤_, _<_}
 use mathlib.Core.Path.{_≡_}
 use mathlib.Core.Bool.{true, false}
@@ -27,7 +28,7 @@ pub record At (run : Run) (s : Standing) : Type 0 where
   pub counts : run .lines ≡ s .lines
   pub leaves : run .left ≡ s .left
 
--- a run that calls and input lead to; a line asks for fewer than 65,536 sets
+-- a run with a bench that calls lead to, some waiting bytes, and fewer than 65,536 sets still to be taken
 pub record Stands (run : Run) : Type 0 where
   pub paper : Standing
   pub at : At run paper
@@ -53,7 +54,7 @@ pub record Puts (s : Standing) (input : List ℕ) (r₀ : Reach) (out₀ err₀ 
   pub outs : Writes out₀ (r₀ .out) (leads .said .out) out (r .out)
   pub errs : Writes err₀ (r₀ .err) (leads .said .err) err (r .err)
 
--- a run came further, and no more lines came than bytes
+-- a run came as far or further, and no more lines came than bytes
 pub record Comes (input : List ℕ) (r₀ : Reach) (out₀ err₀ : List ℕ) (r : Reach) (out err : List ℕ) : Type 0 where
   pub stands : Stands (r .run)
   pub puts : (s : Standing) → At (r₀ .run) s → Puts s input r₀ out₀ err₀ r out err
@@ -88,7 +89,7 @@ pub record Fills (input : List ℕ) (r₀ : Reach) (out₀ err₀ : List ℕ) (f
   pub moves : f .used ≡ false → r₀ .out + 10291 ≤ length out₀ → r₀ .err + 64 ≤ length err₀
       → weight (length input) (f .reach) < weight (length input) r₀
 
--- `pass`: a piece of input, up to a place, and to its end where both streams took all
+-- `pass`: a piece of input, up to a place, and to its end where the run goes on
 pub record Passes (run : Run) (input : List ℕ) (r : Passed) : Type 0 where
   pub stands : Stands (r .run)
   pub leads : (s : Standing) → At run s → Leads s input (r .run) (from input (r .next))

@@ -24,7 +24,7 @@ fn write_both(out: &[u8], err: &[u8]) -> bool {
     io::write_all(STDERR_FILENO, err)
 }
 
-// Where a piece of input led, up to which place, and whether both streams took all that it said.
+// Where a piece of input led, up to which place, and whether the run goes on: not where a stream failed, nor where the input has ended.
 struct Passed {
     run: Run,
     next: usize,
@@ -92,7 +92,7 @@ fn obey(run: Run, got: isize, input: &[u8], out: &mut [u8], err: &mut [u8]) -> P
     pass(run, &input[..n], out, err)
 }
 
-// Reads and obeys until the input ends. A proved loop has to end too: this one counts 2^47 reads, which no run uses up.
+// Reads and obeys until the input ends. A proved loop has to end too: this one ends after 2^47 reads.
 fn run_all(input: &mut [u8], out: &mut [u8], err: &mut [u8])
     requires { ⌜ (length (now input) ≤ 65536) × (10291 ≤ length (now out)) × (64 ≤ length (now err)) ⌝ }
 {

@@ -1,5 +1,1 @@
-pub mod Memory
-pub mod Outcome
-pub mod Call
-pub mod Runs
-pub mod Numbered
+pub mod Whole

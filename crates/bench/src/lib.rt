@@ -1,99 +1,134 @@
-// The bench: a session and a store, a line heard, a set taken.
-ghost use mathlib.Core.Path.{_≡_};
+// The bench: it hears lines and gives sets. Its arrays are its own and never move; each call lends them.
+ghost use Prim.Native.Nat.{_≤_};
 ghost use lib.ListN.{length};
-ghost use Rattle.paper.specs.Bench as P;
-ghost use Rattle.paper.specs.Program.{toTake};
-ghost use Rattle.command.specs.View.{width};
-ghost use Rattle.bench.specs.Call.{packedBench, Reached, Gives};
-
-pub mod answer;
-pub mod collect;
-pub mod file;
-pub mod listen;
-pub mod name;
-pub mod print;
-pub mod refusal;
-pub mod reply;
-pub mod state;
-
-use crate::listen::listen;
-use crate::print::take;
-use crate::state::Mode;
-use crate::state::Session;
-use crate::state::Step;
-use crate::state::fresh;
+ghost use Rattle.session.specs.Call.{Reached, Begins, HearsLine, TakesSet, SetsLeft};
+ghost use Rattle.flow.specs.Fill.{Starting};
+ghost use Rattle.bench.specs.Whole.{memory};
 use command::Answer;
-use store::Store;
+use flow::run::run;
+use session::call::hear;
+use session::call::sets_left;
+use session::call::take;
 
-// A bench by value. Its fields are its own: a bench is one that calls lead to.
+// The forms' texts and names, the lengths of both, the forms' plans and the store's numbers; then the session: the draft's name and text,
+// the answers, what they are worth, and the session's numbers.
 pub struct Bench {
-    session: Session,
-    store: Store,
-}
-
-// What a call gives: its answer, and the bench that it leaves.
-pub struct Heard {
-    pub answer: Answer,
-    pub bench: Bench,
-}
-
-// A step as a call gives it.
-fn called(step: Step) -> Heard
-    ensures { λ r. ⌜ (r .answer ≡ step .answer) × (r .bench .session ≡ step .session) × (r .bench .store ≡ step .store) ⌝ }
-{
-    let answer = step.answer;
-    let session = step.session;
-    let store = step.store;
-    Heard {
-        answer,
-        bench: Bench { session, store },
-    }
+    forms: [u8; 4096],
+    names: [u8; 128],
+    texts: [usize; 8],
+    lens: [usize; 8],
+    plans: [usize; 1856],
+    filed: [usize; 2],
+    name: [u8; 16],
+    text: [u8; 1024],
+    answers: [u8; 1700],
+    values: [usize; 104],
+    held: [usize; 10],
 }
 
 impl Bench {
     // Idle, with an empty store.
     pub fn new() -> Self
-        ensures { λ r. ⌜ Reached r ⌝ }
-        ensures { λ r. ⌜ r ≡ packedBench P.begin ⌝ }
+        ensures { λ r. ⌜ Begins (memory r) ⌝ }
     {
         Bench {
-            session: fresh(Mode::Idle),
-            store: Store::new(),
+            forms: [0u8; 4096],
+            names: [0u8; 128],
+            texts: [0usize; 8],
+            lens: [0usize; 8],
+            plans: [0usize; 1856],
+            filed: [0usize; 2],
+            name: [0u8; 16],
+            text: [0u8; 1024],
+            answers: [0u8; 1700],
+            values: [0usize; 104],
+            held: [0usize; 10],
         }
     }
 
     // A line, without its LF, with a buffer for the reply.
-    pub fn hear(self, s: &[u8], reply: &mut [u8]) -> Heard
-        requires { ⌜ Reached self ⌝ }
-        ensures { λ r. ⌜ Reached (r .bench) ⌝ }
-        ensures { λ r. ⌜ ((k : Reached self) → Gives (P.hear width (length (now (reply .entry))) (k .paper) (now (s .entry))) (now (reply .entry)) (now (reply .exit)) r) ⌝ }
+    pub fn hear(&mut self, s: &[u8], reply: &mut [u8]) -> Answer
+        requires { ⌜ Reached (memory (now self)) ⌝ }
+        ensures { λ r. ⌜ HearsLine (memory (now (self .entry))) (now (s .entry)) (now (reply .entry)) (memory (now (self .exit))) (now (reply .exit)) r ⌝ }
     {
-        called(listen(self.session, self.store, s, reply))
+        hear(
+            &mut self.forms,
+            &mut self.names,
+            &mut self.texts,
+            &mut self.lens,
+            &mut self.plans,
+            &mut self.filed,
+            &mut self.name,
+            &mut self.text,
+            &mut self.answers,
+            &mut self.values,
+            &mut self.held,
+            s,
+            reply,
+        )
     }
 
     // One set, with a buffer for it.
-    pub fn take(self, set: &mut [u8]) -> Heard
-        requires { ⌜ Reached self ⌝ }
-        ensures { λ r. ⌜ Reached (r .bench) ⌝ }
-        ensures { λ r. ⌜ ((k : Reached self) → Gives (P.takeSet (length (now (set .entry))) (k .paper)) (now (set .entry)) (now (set .exit)) r) ⌝ }
+    pub fn take(&mut self, set: &mut [u8]) -> Answer
+        requires { ⌜ Reached (memory (now self)) ⌝ }
+        ensures { λ r. ⌜ TakesSet (memory (now (self .entry))) (now (set .entry)) (memory (now (self .exit))) (now (set .exit)) r ⌝ }
     {
-        called(take(self.session, self.store, set))
+        take(
+            &self.forms,
+            &self.names,
+            &self.texts,
+            &self.lens,
+            &self.plans,
+            &self.filed,
+            &mut self.name,
+            &mut self.text,
+            &mut self.answers,
+            &mut self.values,
+            &mut self.held,
+            set,
+        )
     }
 
     // The sets that are left to be taken.
-    pub fn sets_left(self) -> usize
-        requires { ⌜ Reached self ⌝ }
-        ensures { λ r. ⌜ ((k : Reached self) → r ≡ toTake (k .paper .session)) ⌝ }
+    pub fn sets_left(&self) -> usize
+        requires { ⌜ Reached (memory (now self)) ⌝ }
+        ensures { λ r. ⌜ SetsLeft (memory (now (self .entry))) r ⌝ }
     {
-        let session = self.session;
-        let mode = session.mode;
-        match mode {
-            Mode::Printing {
-                sets,
-                copies: _,
-                out,
-            } => sets - out,
-            _ => 0,
-        }
+        sets_left(
+            &self.forms,
+            &self.names,
+            &self.texts,
+            &self.lens,
+            &self.plans,
+            &self.filed,
+            &self.name,
+            &self.text,
+            &self.answers,
+            &self.values,
+            &self.held,
+        )
+    }
+
+    // Standard input to standard output and standard error, with a buffer for each.
+    pub fn run(&mut self, input: &mut [u8], out: &mut [u8], err: &mut [u8])
+        requires { ⌜ Starting (memory (now self)) (now input) (now out) (now err) ⌝ }
+        ensures { λ _. ⌜ Reached (memory (now (self .exit))) ⌝ }
+    {
+        run(
+            &mut self.forms,
+            &mut self.names,
+            &mut self.texts,
+            &mut self.lens,
+            &mut self.plans,
+            &mut self.filed,
+            &mut self.name,
+            &mut self.text,
+            &mut self.answers,
+            &mut self.values,
+            &mut self.held,
+            input,
+            out,
+            err,
+        )
     }
 }

@@ -1,95 +1,260 @@
 // Calls with a buffer lent: the buffer before, the answer, and the buffer after.
 ghost use Prim.Native.Nat.{_≤_};
-ghost use Rattle.bench.specs.Call.{Reached};
+ghost use Rattle.session.specs.Call.{memoryOf, Reached};
 use crate::show::say;
 use crate::show::say_number;
 use crate::show::show;
 use crate::show::show_answer;
-use bench::Bench;
-use bench::Heard;
+use command::Answer;
 use line::read::read_line;
 use normal::write::write_line;
+use session::call::hear;
+use session::call::sets_left;
+use session::call::take;
 
-// The calls that write into a buffer.
+// What a line of the script asks for.
 pub enum Call {
+    Hear,
     Inform,
     Take,
     Write,
+    Remark,
 }
 
 // A line with zeros and a backslash that the normal form leaves out, read and written.
-fn written(bench: Bench, buf: &mut [u8]) -> Heard
-    requires { ⌜ Reached bench ⌝ }
-    ensures { λ r. ⌜ Reached (r .bench) ⌝ }
-{
+fn written(buf: &mut [u8]) -> Answer {
     let source = b"A050,030,0,3,01,1,N,\"\\Mia \\\"M\\\"\"C0";
-    let answer = write_line(source, read_line(source), buf);
-    Heard { answer, bench }
+    write_line(source, read_line(source), buf)
 }
 
-// A call.
-fn called(bench: Bench, call: Call, buf: &mut [u8]) -> Heard
-    requires { ⌜ Reached bench ⌝ }
-    ensures { λ r. ⌜ Reached (r .bench) ⌝ }
+// A call. A remark calls nothing of the bench: the line is written for it too, and is not shown.
+fn called(
+    all: &mut [u8],
+    names: &mut [u8],
+    texts: &mut [usize],
+    lens: &mut [usize],
+    plans: &mut [usize],
+    filed: &mut [usize],
+    name: &mut [u8],
+    text: &mut [u8],
+    answers: &mut [u8],
+    values: &mut [usize],
+    held: &mut [usize],
+    call: Call,
+    line: &[u8],
+    buf: &mut [u8],
+) -> Answer
+    requires { ⌜ Reached (memoryOf (now all) (now names) (now texts) (now lens) (now plans) (now filed) (now name) (now text) (now answers) (now values) (now held)) ⌝ }
+    ensures { λ _. ⌜ Reached (memoryOf (now (all .exit)) (now (names .exit)) (now (texts .exit)) (now (lens .exit)) (now (plans .exit)) (now (filed .exit)) (now (name .exit)) (now (text .exit)) (now (answers .exit)) (now (values .exit)) (now (held .exit))) ⌝ }
 {
     match call {
-        Call::Inform => bench.hear(b"FI", buf),
-        Call::Take => bench.take(buf),
-        Call::Write => written(bench, buf),
+        Call::Hear => hear(
+            all,
+            names,
+            texts,
+            lens,
+            plans,
+            filed,
+            name,
+            text,
+            answers,
+            values,
+            held,
+            line,
+            buf,
+        ),
+        Call::Inform => hear(
+            all,
+            names,
+            texts,
+            lens,
+            plans,
+            filed,
+            name,
+            text,
+            answers,
+            values,
+            held,
+            b"FI",
+            buf,
+        ),
+        Call::Take => take(
+            all,
+            names,
+            texts,
+            lens,
+            plans,
+            filed,
+            name,
+            text,
+            answers,
+            values,
+            held,
+            buf,
+        ),
+        _ => written(buf),
     }
 }
 
 // The sets that a take leaves.
-fn show_left(bench: Bench, call: Call)
-    requires { ⌜ Reached bench ⌝ }
+fn show_left(
+    all: &[u8],
+    names: &[u8],
+    texts: &[usize],
+    lens: &[usize],
+    plans: &[usize],
+    filed: &[usize],
+    name: &[u8],
+    text: &[u8],
+    answers: &[u8],
+    values: &[usize],
+    held: &[usize],
+    call: Call,
+)
+    requires { ⌜ Reached (memoryOf (now all) (now names) (now texts) (now lens) (now plans) (now filed) (now name) (now text) (now answers) (now values) (now held)) ⌝ }
 {
     let Call::Take = call else {
         return;
     };
     say(b"    sets left: ");
-    say_number(bench.sets_left());
+    say_number(sets_left(
+        all,
+        names,
+        texts,
+        lens,
+        plans,
+        filed,
+        name,
+        text,
+        answers,
+        values,
+        held,
+    ));
     say(b"\n");
 }
 
+// What is shown before a call: the line, or the buffer.
+fn show_before(call: Call, line: &[u8], buf: &[u8]) {
+    match call {
+        Call::Remark => {}
+        Call::Hear => {
+            say(b"  ");
+            say(line);
+            say(b"  ");
+        }
+        _ => {
+            say(b"  lent ");
+            say_number(buf.len());
+            say(b"\n    before ");
+            show(buf);
+        }
+    }
+}
+
+// What is shown after it: the answer, and the buffer.
+fn show_after(call: Call, answer: Answer, buf: &[u8]) {
+    match call {
+        Call::Remark => {}
+        Call::Hear => show_answer(answer),
+        _ => {
+            say(b"    ");
+            show_answer(answer);
+            say(b"    after  ");
+            show(buf);
+        }
+    }
+}
+
 // A call, shown with its buffer before and after.
-fn shown(bench: Bench, call: Call, buf: &mut [u8]) -> Bench
-    requires { ⌜ Reached bench ⌝ }
-    ensures { λ r. ⌜ Reached r ⌝ }
+fn shown(
+    all: &mut [u8],
+    names: &mut [u8],
+    texts: &mut [usize],
+    lens: &mut [usize],
+    plans: &mut [usize],
+    filed: &mut [usize],
+    name: &mut [u8],
+    text: &mut [u8],
+    answers: &mut [u8],
+    values: &mut [usize],
+    held: &mut [usize],
+    call: Call,
+    line: &[u8],
+    buf: &mut [u8],
+)
+    requires { ⌜ Reached (memoryOf (now all) (now names) (now texts) (now lens) (now plans) (now filed) (now name) (now text) (now answers) (now values) (now held)) ⌝ }
+    ensures { λ _. ⌜ Reached (memoryOf (now (all .exit)) (now (names .exit)) (now (texts .exit)) (now (lens .exit)) (now (plans .exit)) (now (filed .exit)) (now (name .exit)) (now (text .exit)) (now (answers .exit)) (now (values .exit)) (now (held .exit))) ⌝ }
 {
-    say(b"  lent ");
-    say_number(buf.len());
-    say(b"\n    before ");
-    show(buf);
-    let heard = called(bench, call, buf);
-    let answer = heard.answer;
-    let next = heard.bench;
-    say(b"    ");
-    show_answer(answer);
-    say(b"    after  ");
-    show(buf);
-    show_left(next, call);
-    next
+    show_before(call, line, buf);
+    let answer = called(
+        all,
+        names,
+        texts,
+        lens,
+        plans,
+        filed,
+        name,
+        text,
+        answers,
+        values,
+        held,
+        call,
+        line,
+        buf,
+    );
+    show_after(call, answer, buf);
+    show_left(
+        all,
+        names,
+        texts,
+        lens,
+        plans,
+        filed,
+        name,
+        text,
+        answers,
+        values,
+        held,
+        call,
+    );
 }
 
 // A call with so many marks for a buffer.
-pub fn lent(bench: Bench, call: Call, room: usize) -> Bench
-    requires { ⌜ Reached bench ⌝ }
+pub fn lent(
+    all: &mut [u8],
+    names: &mut [u8],
+    texts: &mut [usize],
+    lens: &mut [usize],
+    plans: &mut [usize],
+    filed: &mut [usize],
+    name: &mut [u8],
+    text: &mut [u8],
+    answers: &mut [u8],
+    values: &mut [usize],
+    held: &mut [usize],
+    call: Call,
+    line: &[u8],
+    room: usize,
+)
+    requires { ⌜ Reached (memoryOf (now all) (now names) (now texts) (now lens) (now plans) (now filed) (now name) (now text) (now answers) (now values) (now held)) ⌝ }
     requires { ⌜ room ≤ 128 ⌝ }
-    ensures { λ r. ⌜ Reached r ⌝ }
+    ensures { λ _. ⌜ Reached (memoryOf (now (all .exit)) (now (names .exit)) (now (texts .exit)) (now (lens .exit)) (now (plans .exit)) (now (filed .exit)) (now (name .exit)) (now (text .exit)) (now (answers .exit)) (now (values .exit)) (now (held .exit))) ⌝ }
 {
     let mut marks = [46u8; 128];
-    shown(bench, call, &mut marks[..room])
-}
-
-// A call with no byte, with one, and with 3 bytes too few to 2 too many, each on the bench that the last one left.
-pub fn around(bench: Bench, call: Call, needed: usize) -> Bench
-    requires { ⌜ Reached bench ⌝ }
-    requires { ⌜ (3 ≤ needed) × (needed ≤ 126) ⌝ }
-    ensures { λ r. ⌜ Reached r ⌝ }
-{
-    let mut next = lent(lent(bench, call, 0), call, 1);
-    for room in needed - 3..needed + 3 {
-        next = lent(next, call, room);
-    }
-    next
+    shown(
+        all,
+        names,
+        texts,
+        lens,
+        plans,
+        filed,
+        name,
+        text,
+        answers,
+        values,
+        held,
+        call,
+        line,
+        &mut marks[..room],
+    );
 }

@@ -67,7 +67,7 @@ first-line (b ∷ s) r e =
     either (ltb b 0x20) (λ y. absurd (true≢false (rw y at e)))
     (λ n. let low : 0x20 ≤ b = ltb-false b 0x20 n in if-false (eqb b lf) _ _ (ne-eqb b lf (omega arith)) ∙ rw (first-line s r (rw n at e)))
 
--- what holds of the line of a form that a reading is, if it is one
+-- a property of a form's lines, asked of a reading: of one that is none of them nothing is asked
 unfoldable pub Keeps : (FormLine → Type 0) → Reading → Type 0
 Keeps K (command empty) = Unit
 Keeps K (command new) = Unit

@@ -9,13 +9,14 @@ use native.Mathlib.Decide.{decLt}
 use lib.ListN.{length, getD, set, replicate, length-set, length-replicate, getD-replicate, List·getD-eq-default}
 use lib.Seq.{getD-set-same, getD-set-other}
 use lib.Dec.{ltb, leb, eqb}
-use borrow.Author.Tests.{ltb-true, ltb-false, lt-ltb, le-ltb, eq-eqb, ne-eqb, eqb-true, lt-leb, le-leb}
+use borrow.Author.Tests.{ltb-true, ltb-false, lt-ltb, le-ltb, eq-eqb, ne-eqb, lt-leb, le-leb}
 use Rattle.paper.specs.Command as P
 use Rattle.paper.specs.Command.{all}
 use Rattle.paper.specs.Form.{valueOf, lenOf, sameValue, defined, isSome, roomFor, contentSound}
 use Rattle.paper.proofs.Law.{if-true, if-false}
 use Rattle.paper.proofs.Test.{either, clash}
 use Rattle.form.specs.Sound.{placeIn, slotOf, Noted, Agrees}
+use Rattle.form.proofs.Distinct.{same-value}
 
 -- a number past the last has no place
 pub place-none : (first last n : ℕ) → last < n → 26 ≡ placeIn first last n
@@ -45,14 +46,6 @@ place-same (P.variable n) (P.counter m) h e =
     let a = place-below 10 15 n (omega arith) in let b = place-below 0 9 m h in absurd (omega arith)
 place-same (P.variable n) (P.variable m) h e =
     let a = place-below 10 15 n (omega arith) in let b = place-below 10 15 m h in eq-eqb n m (omega arith)
-
--- values that are the same are equal
-same-value : (v w : P.Value) → sameValue v w ≡ true → v ≡ w
-unfolding sameValue
-same-value (P.counter n) (P.counter m) e = rw (eqb-true n m e)
-same-value (P.counter n) (P.variable m) e = clash e refl
-same-value (P.variable n) (P.counter m) e = clash e refl
-same-value (P.variable n) (P.variable m) e = rw (eqb-true n m e)
 
 -- past the last place nothing is noted
 pub past-last : (lens : List ℕ) (slot : ℕ) → length lens ≤ slot → 0 ≡ getD lens slot 0

@@ -1,3 +1,6 @@
 pub mod Walk
 pub mod Asked
 pub mod Sound
+pub mod Plan
+pub mod Ending
+pub mod Noting

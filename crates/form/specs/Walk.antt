@@ -11,6 +11,6 @@ unfoldable pub firstLine : List ℕ → List ℕ
 firstLine [] = []
 firstLine (b ∷ s) = if eqb b lf then [] else (b ∷ firstLine s)
 
--- the bytes from one place up to another
+-- a part of a text, from its first place up to the place behind it
 unfoldable pub partOf : List ℕ → ℕ → ℕ → List ℕ
 partOf s start end = take (end - start) (drop start s)

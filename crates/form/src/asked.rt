@@ -1,20 +1,13 @@
-// What a form asks for, in its order, and whether an answer fits.
+// A line of a form as a definition, by the numbers that a plan needs of it.
 ghost use mathlib.Core.Path.{_≡_};
 ghost use mathlib.Core.Bool.{true};
 ghost use mathlib.Core.List.{List};
 ghost use Prim.Native.Nat.{ℕ};
-ghost use Rattle.paper.specs.Byte.{every};
 ghost use Rattle.paper.specs.Command as P;
-ghost use Rattle.paper.specs.Command.{isShown, inRange};
-ghost use Rattle.paper.specs.Form.{textOf};
-ghost use Rattle.paper.specs.Line.{isDigit};
-ghost use Rattle.paper.specs.Set.{fits};
-ghost use Rattle.paper.specs.State.{allIn};
+ghost use Rattle.paper.specs.Command.{inRange};
 ghost use Rattle.paper.specs.Write.{lineText};
-ghost use Rattle.text.specs.Place.{from};
 ghost use Rattle.command.specs.View.{width};
-ghost use Rattle.form.specs.Asked.{defineOf, lineOf, nextOf};
-use crate::walk::line_end;
+ghost use Rattle.form.specs.Asked.{lineOf};
 use command::Step;
 use line::parts::StepRead;
 use line::parts::digit_part;
@@ -85,63 +78,4 @@ pub fn line_in(s: &[u8]) -> Line
         return variable_in(s);
     }
     Line::Other
-}
-
-// The next definition, and the place behind its line; or that none is left.
-pub enum Next {
-    Asked { define: Define, next: usize },
-    Nothing,
-}
-
-// The next definition from the line at a place on; every other line is passed over.
-pub fn next_asked(text: &[u8], start: usize) -> Next
-    ensures { λ r. ⌜ ((rest : List P.FormLine) → from (now (text .entry)) start ≡ textOf rest → allIn width rest ≡ true → r ≡ nextOf start rest) ⌝ }
-{
-    let mut at = start;
-    while at < text.len() {
-        let end = line_end(text, at);
-        let line = line_in(&text[at..end]);
-        at = end + 1;
-        let Line::Definition { define } = line else {
-            continue;
-        };
-        return Next::Asked { define, next: at };
-    }
-    Next::Nothing
-}
-
-// Every byte is a digit.
-fn all_digits(a: &[u8]) -> bool
-    ensures { λ r. ⌜ r ≡ every isDigit (now (a .entry)) ⌝ }
-{
-    let mut i = 0;
-    while i < a.len() {
-        let b = a[i];
-        if b < 48 {
-            return false;
-        }
-        if 57 < b {
-            return false;
-        }
-        i += 1;
-    }
-    true
-}
-
-// An answer that fits a definition.
-pub fn answer_fits(define: Define, a: &[u8]) -> bool
-    ensures { λ r. ⌜ ((d : P.Define) → define ≡ defineOf d → every isShown (now (a .entry)) ≡ true → r ≡ fits d (now (a .entry))) ⌝ }
-{
-    match define {
-        Define::Counter { n: _, len, step: _ } => {
-            if a.len() < 1 {
-                return false;
-            }
-            if len < a.len() {
-                return false;
-            }
-            all_digits(a)
-        }
-        Define::Variable { n: _, len } => a.len() <= len,
-    }
 }

@@ -1,5 +1,5 @@
-// A form's text: its lines one after the other, what it asks for, whether an answer fits, and whether the form is sound.
+// A form's text: its lines one after the other, which of them define, whether the form is sound, and its plan.
 pub mod asked;
 pub mod check;
-pub mod course;
+pub mod plan;
 pub mod walk;

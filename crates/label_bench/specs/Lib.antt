@@ -1,4 +1,1 @@
-pub mod Said
-pub mod Emit
-pub mod Fill
-pub mod Chain
+pub mod Serves

@@ -53,15 +53,15 @@ unfolding viewOf Stand refusalOf read long
 read-control s t h c e = record { view = sym (if-false _ _ _ (le-ltb 256 (length s) h) ∙ if-true _ _ _ (c .1 e)); stand = tt }
 
 -- any other line is what its shape is judged as
-pub read-shown : (s : List ℕ) (t : Bool) (r : Command) → length s ≤ 256 → Cleared s t → t ≡ true → Judges s (shape s) r → IsRead s r
+pub read-shown : (s : List ℕ) (r : Command) → length s ≤ 256 → every isShown s ≡ true → Judges s (shape s) r → IsRead s r
 unfolding read long
-read-shown s t r h c e j =
+read-shown s r h e j =
     record {
-      view = j .view ∙ sym (if-false _ _ _ (le-ltb 256 (length s) h) ∙ if-false _ _ _ (shown-clear s (c .0 e)));
+      view = j .view ∙ sym (if-false _ _ _ (le-ltb 256 (length s) h) ∙ if-false _ _ _ (shown-clear s e));
       stand = j .stand;
     }
 
-pub ruleset whole = (read-long, read-control, read-shown)
+pub ruleset whole = (read-long, read-control)
 
 -- no bytes have the shape of the empty line
 shape-empty : (s : List ℕ) → length s < 1 → shape s ≡ shaped P.empty

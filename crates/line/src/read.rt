@@ -1,8 +1,9 @@
 // Reading a line.
-ghost use Prim.Native.Nat.{ℕ};
+ghost use Prim.Native.Nat.{ℕ, _≤_};
 ghost use mathlib.Core.Path.{_≡_};
 ghost use mathlib.Core.Bool.{true};
 ghost use mathlib.Core.List.{List};
+ghost use lib.ListN.{length};
 ghost use Rattle.paper.specs.Byte.{every};
 ghost use Rattle.paper.specs.Line.{ended, got};
 ghost use Rattle.paper.specs.Command as P;
@@ -455,10 +456,11 @@ fn read_kind(s: &[u8], kind: Kind) -> Command
     }
 }
 
-// A line without control bytes.
-fn read_shown(s: &[u8]) -> Command
+// Reads a line that is not too long and has no control byte.
+pub fn read_clear(s: &[u8]) -> Command
     requires { ⌜ every isShown (now s) ≡ true ⌝ }
-    ensures { λ r. ⌜ Judges (now (s .entry)) (shape (now (s .entry))) r ⌝ }
+    requires { ⌜ length (now s) ≤ 256 ⌝ }
+    ensures { λ r. ⌜ IsRead (now (s .entry)) r ⌝ }
 {
     if s.len() < 1 {
         return Command::Empty;
@@ -478,7 +480,7 @@ pub fn read_line(s: &[u8]) -> Command
         };
     }
     if is_clear(s) {
-        return read_shown(s);
+        return read_clear(s);
     }
     Command::Refused {
         why: Refusal::ControlByte,

@@ -114,10 +114,21 @@ unfolding checked outcome done if_then_else_
 finish-home forms name ls (some n) = refl
 finish-home forms name ls none = either (hasRoom forms ls) (λ y. rw y) (λ n. rw n)
 
+-- nothing of them is dropped
+home-whole : (st : Session) → kept (wayHome st) ≡ wayHome st
+unfolding ran wayHome
+home-whole idle = refl
+home-whole (collecting name ls) = refl
+home-whole spoiled = refl
+home-whole (opened ls) = refl
+home-whole (answering ls given) = refl
+home-whole (ready ls given) = refl
+home-whole (printing ls given n c i) = refl
+
 -- no state is stuck: from every one a single line leads to Idle
 pub leads-home : (width room : ℕ) (b : Bench) → hear width room b (wayHome (b .session)) .next .session ≡ idle
 unfolding hear heard obeyed wayHome inIdle inCollecting inSpoiled inOpened inReady inPrinting inAnswering onFinish outcome done refuse afterRefusal long control any if_then_else_
-leads-home width room b = from (b .session)
+leads-home width room b = rw (home-whole (b .session)) (from (b .session))
   where
     from : (st : Session) → heard width room (b .forms) st (wayHome st) .next .session ≡ idle
     from idle = rw (read-new width)

@@ -12,7 +12,7 @@ use lib.ListN.{length, take, drop, length-append, length-drop}
 use lib.Seq.{take-all}
 use borrow.Author.Tests.{leb-true, ltb-true, eqb-false}
 use Rattle.paper.specs.Byte.{if_then_else_, same}
-use Rattle.paper.specs.Line.{long, control}
+use Rattle.paper.specs.Line.{kept, long, control}
 use Rattle.paper.specs.Command.{Define, FormLine, Filing, start, finish, inform, recall, delete, Command, empty, new, keep, file, ask, print, filingRanges, ranges, inRange, isName, star}
 use Rattle.paper.specs.Refusal.{Refusal, tooLong, controlByte, notNow, unknown, malformed, outOfRange, overfull, isSpoiled, unsound, nameTaken, noRoom, absent, unfit, overrun, tooShort, notPrinting, accepted, refused}
 use Rattle.paper.specs.Read.{Shape, shaped, strange, broken, shape, Reading, command, unread, judged, read}
@@ -391,7 +391,7 @@ begin-sane width = record { forms = record { each = tt; few = omega arith; room 
 -- a line keeps it so
 pub hear-sane : (width room : ℕ) (b : Bench) (s : List ℕ) → Sane width b → Sane width (hear width room b s .next)
 unfolding hear
-hear-sane width room b s sane = heard-good width room (b .forms) (b .session) s .sane (sane .forms) (sane .session)
+hear-sane width room b s sane = heard-good width room (b .forms) (b .session) (kept s) .sane (sane .forms) (sane .session)
 
 -- and a take
 pub take-sane : (width room : ℕ) (b : Bench) → Sane width b → Sane width (takeSet room b .next)
@@ -407,7 +407,7 @@ led-sane width (taking {b = b} led room) = take-sane width room b (led-sane widt
 -- a refused line leaves the forms as they were, beside the session that this refusal leaves
 pub hear-refused : (width room : ℕ) (b : Bench) (s : List ℕ) (r : Refusal) → hear width room b s .answer ≡ refused r → hear width room b s .next ≡ record { forms = b .forms; session = leftBy (b .session) r }
 unfolding hear
-hear-refused width room b s r e = heard-good width room (b .forms) (b .session) s .firm r e
+hear-refused width room b s r e = heard-good width room (b .forms) (b .session) (kept s) .firm r e
 
 -- so no refused line changes a stored form
 pub hear-refused-keeps : (width room : ℕ) (b : Bench) (s : List ℕ) (r : Refusal) → hear width room b s .answer ≡ refused r → hear width room b s .next .forms ≡ b .forms

@@ -7,6 +7,7 @@ pub mod Part
 pub mod Clear
 pub mod Row
 pub mod RoundTrip
+pub mod Dropped
 pub mod Quotes
 pub mod Split
 pub mod Counter

@@ -7,13 +7,14 @@ use native.Mathlib.Omega.{arith}
 use lib.ListN.{length, take, length-take}
 use lib.Seq.{take-all}
 use borrow.Author.Tests.{ltb-true, ltb-false, lt-ltb}
-use Rattle.paper.specs.Line.{long}
+use Rattle.paper.specs.Line.{kept, long}
 use Rattle.paper.specs.Command.{FormLine}
 use Rattle.paper.specs.Form.{Form}
 use Rattle.paper.specs.Read.{read}
 use Rattle.paper.specs.Bench.{Session, idle, collecting, spoiled, opened, answering, ready, printing, Bench, inAnswering, heard, hear}
 use Rattle.paper.proofs.Law.{if-true}
 use Rattle.paper.proofs.Test.{either}
+use Rattle.paper.proofs.Dropped.{kept-stays, stays-kept, stays-take}
 
 -- a long line is long in its first 257 bytes
 first-long : (s : List ℕ) → long s ≡ true → long (take 257 s) ≡ true
@@ -48,7 +49,8 @@ heard-first width room forms (answering ls answers) s = answer-first forms ls an
 heard-first width room forms (ready ls answers) s = rw (read-first width s)
 heard-first width room forms (printing ls answers n c i) s = rw (read-first width s)
 
--- in every state the first 257 bytes of a line are heard as the line
-pub hear-first : (width room : ℕ) (b : Bench) (s : List ℕ) → hear width room b (take 257 s) ≡ hear width room b s
+-- in every state the first 257 bytes that are kept of a line are heard as the line
+pub hear-first : (width room : ℕ) (b : Bench) (s : List ℕ) → hear width room b (take 257 (kept s)) ≡ hear width room b s
 unfolding hear
-hear-first width room b s = heard-first width room (b .forms) (b .session) s
+hear-first width room b s =
+    rw (kept-stays (take 257 (kept s)) (stays-take 257 (kept s) (stays-kept s))) (heard-first width room (b .forms) (b .session) (kept s))

@@ -26,6 +26,7 @@ use Rattle.paper.proofs.Test.{held, either, tests}
 use Rattle.paper.proofs.Text.{same-eq, clear-control, clear-between}
 use Rattle.paper.proofs.Split.{allRange}
 use Rattle.paper.proofs.Store.{find-storable, recall-opens}
+use Rattle.paper.proofs.Dropped.{kept-clear, kept-normal}
 use Rattle.paper.proofs.RoundTrip.{read-normal}
 use Rattle.paper.proofs.SetOf.{set-range, set-room, set-lines-back, set-well-formed, text-form, take-gives}
 
@@ -142,14 +143,14 @@ module _ (width : ℕ) (b : Bench) (name : List ℕ) (ls : List FormLine) (given
   unfolding done outcome inRange ranges filingRanges allOf all
   accepts-recall rest last more =
       let named : inRange width (file (recall name)) ≡ true = rw (find-named width name (b .forms) ls (sane .forms .each) (o .stored)) in
-      accepts-next width b _ last _ rest (λ room. recall-opens width room b _ name ls (o .free) (o .stored) (read-normal width (file (recall name)) narrow named)) more
+      accepts-next width b _ last _ rest (λ room. recall-opens width room b _ name ls (o .free) (o .stored) (rw (kept-normal width (file (recall name)) named) (read-normal width (file (recall name)) narrow named))) more
 
   -- `?` asks, where the form asks for something
   accepts-ask : (ds : List Define) (rest : List (List ℕ)) (last : Bench) → Accepts width (at′ (answeredOf ls [] ds)) rest last → Accepts width (at′ (openedWith ls ds)) (asking ds ++ rest) last
   unfolding asking openedWith answeredOf hear heard obeyed inOpened done outcome inRange ranges allOf
   accepts-ask [] rest last more = more
   accepts-ask (d ∷ ds) rest last more =
-      accepts-next width _ _ last _ rest (λ room. rw (read-normal width ask narrow refl)) more
+      accepts-next width _ _ last _ rest (λ room. rw (kept-normal width ask refl, read-normal width ask narrow refl)) more
 
   -- each answer is taken, and after the last the form is ready
   accepts-answers : (before later : List (List ℕ)) (ds : List Define) (rest : List (List ℕ)) (last : Bench) → drop (length before) (asked ls) ≡ ds → InRange ds → fitting ds later ≡ true → Accepts width (at′ (ready ls (before ++ later))) rest last → Accepts width (at′ (answeredOf ls before ds)) (later ++ rest) last
@@ -162,7 +163,7 @@ module _ (width : ℕ) (b : Bench) (name : List ℕ) (ls : List FormLine) (given
       let count : length (before ++ (a ∷ [])) ≡ suc (length before) = rw length-append (omega arith) in
       let left : drop (length (before ++ (a ∷ []))) (asked ls) ≡ ds = rw count (drop-more (length before) (asked ls) ds d e) in
       accepts-next width _ (at′ (answeredOf ls (before ++ (a ∷ [])) ds)) last a (later ++ rest)
-      (λ room. rw (if-false (long a) _ _ (fine .short), if-false (control a) _ _ (fine .clear), e, if-true (fits d a) _ _ (and-left _ _ f)))
+      (λ room. rw (kept-clear a (fine .clear), if-false (long a) _ _ (fine .short), if-false (control a) _ _ (fine .clear), e, if-true (fits d a) _ _ (and-left _ _ f)))
       (accepts-answers (before ++ (a ∷ [])) later ds rest last left (r .1) (and-right (fits d a) _ f) (rw (append-assoc before (a ∷ []) later) more))
 
   -- `P` prints
@@ -171,7 +172,7 @@ module _ (width : ℕ) (b : Bench) (name : List ℕ) (ls : List FormLine) (given
   accepts-print =
       let inside : inRange width (print n c) ≡ true = rw (le-leb 1 n (o .some-sets), le-leb n 65535 (o .few-sets), le-leb 1 c (o .some-copies), le-leb c 65535 (o .few-copies)) in
       accepts-next width _ _ _ _ []
-      (λ room. rw (read-normal width (print n c) narrow inside, if-true _ _ _ (o .hold)))
+      (λ room. rw (kept-normal width (print n c) inside, read-normal width (print n c) narrow inside, if-true _ _ _ (o .hold)))
       (accepts-none width _)
 
   -- every line of the order is accepted, and then its sets are printed

@@ -10,6 +10,7 @@ use native.Mathlib.Omega.{arith}
 use lib.ListN.{length}
 use borrow.Author.Tests.{eq-eqb}
 use Rattle.paper.specs.Byte.{if_then_else_, same}
+use Rattle.paper.specs.Line.{kept}
 use Rattle.paper.specs.Command.{FormLine, isName, finish, recall, delete, Command, file, star}
 use Rattle.paper.specs.Refusal.{noRoom, absent, accepted, refused}
 use Rattle.paper.specs.Read.{command, read}
@@ -167,12 +168,12 @@ stored-with width (f ∷ fs) name ls all named free good =
     ))
 
 -- a line that reads, in Idle
-pub hear-idle : (width room : ℕ) (b : Bench) (s : List ℕ) (c : Command) → b .session ≡ idle → read width s ≡ command c → hear width room b s ≡ inIdle room (b .forms) c
+pub hear-idle : (width room : ℕ) (b : Bench) (s : List ℕ) (c : Command) → b .session ≡ idle → read width (kept s) ≡ command c → hear width room b s ≡ inIdle room (b .forms) c
 unfolding hear heard obeyed
 hear-idle width room b s c was reads = rw (was, reads)
 
 -- and in Collecting
-pub hear-collecting : (width room : ℕ) (b : Bench) (s : List ℕ) (c : Command) (name : List ℕ) (ls : List FormLine) → b .session ≡ collecting name ls → read width s ≡ command c → hear width room b s ≡ inCollecting (b .forms) name ls c
+pub hear-collecting : (width room : ℕ) (b : Bench) (s : List ℕ) (c : Command) (name : List ℕ) (ls : List FormLine) → b .session ≡ collecting name ls → read width (kept s) ≡ command c → hear width room b s ≡ inCollecting (b .forms) name ls c
 unfolding hear heard obeyed
 hear-collecting width room b s c name ls was reads = rw (was, reads)
 
@@ -183,41 +184,41 @@ checked-stored fs name ls (some n) e = cc
 checked-stored fs name ls none e = either (hasRoom fs ls) (λ y. rw y) (λ n. let never : refused noRoom ≡ accepted [] = rw n at e in cc)
 
 -- `FE` that is accepted stores the form that was collected, behind the others
-pub finish-stores : (width room : ℕ) (b : Bench) (s name : List ℕ) (ls : List FormLine) → b .session ≡ collecting name ls → read width s ≡ command (file finish) → hear width room b s .answer ≡ accepted [] → hear width room b s .next ≡ record { forms = stored (b .forms) name ls; session = idle }
+pub finish-stores : (width room : ℕ) (b : Bench) (s name : List ℕ) (ls : List FormLine) → b .session ≡ collecting name ls → read width (kept s) ≡ command (file finish) → hear width room b s .answer ≡ accepted [] → hear width room b s .next ≡ record { forms = stored (b .forms) name ls; session = idle }
 unfolding inCollecting onFinish
 finish-stores width room b s name ls was reads e =
     let heard′ = hear-collecting width room b s (file finish) name ls was reads in
     rw heard′ (checked-stored (b .forms) name ls (unsoundAt ls) (rw heard′ at e))
 
 -- `FR` of a stored form is accepted and opens exactly its lines
-pub recall-opens : (width room : ℕ) (b : Bench) (s name : List ℕ) (ls : List FormLine) → b .session ≡ idle → find name (b .forms) ≡ some ls → read width s ≡ command (file (recall name)) → hear width room b s ≡ done (b .forms) (openedWith ls (asked ls))
+pub recall-opens : (width room : ℕ) (b : Bench) (s name : List ℕ) (ls : List FormLine) → b .session ≡ idle → find name (b .forms) ≡ some ls → read width (kept s) ≡ command (file (recall name)) → hear width room b s ≡ done (b .forms) (openedWith ls (asked ls))
 unfolding inIdle filed recalled
 recall-opens width room b s name ls was found reads = hear-idle width room b s _ was reads ∙ rw found
 
 -- `FE` that is accepted, and then `FR` of that name, opens the form that was collected
-pub finish-recall : (width room more : ℕ) (b : Bench) (s t name : List ℕ) (ls : List FormLine) → Sane width b → b .session ≡ collecting name ls → read width s ≡ command (file finish) → hear width room b s .answer ≡ accepted [] → read width t ≡ command (file (recall name)) → hear width more (hear width room b s .next) t ≡ done (stored (b .forms) name ls) (openedWith ls (asked ls))
+pub finish-recall : (width room more : ℕ) (b : Bench) (s t name : List ℕ) (ls : List FormLine) → Sane width b → b .session ≡ collecting name ls → read width (kept s) ≡ command (file finish) → hear width room b s .answer ≡ accepted [] → read width (kept t) ≡ command (file (recall name)) → hear width more (hear width room b s .next) t ≡ done (stored (b .forms) name ls) (openedWith ls (asked ls))
 finish-recall width room more b s t name ls sane was reads e again =
     let draft : Draft width (b .forms) name ls = rw was at (sane .session) in
     rw (finish-stores width room b s name ls was reads e)
     (recall-opens width more _ t name ls refl (find-stored (b .forms) name ls (draft .free)) again)
 
 -- `FE` that is accepted leaves every other form as it was
-pub finish-others : (width room : ℕ) (b : Bench) (s name other : List ℕ) (ls : List FormLine) → b .session ≡ collecting name ls → read width s ≡ command (file finish) → hear width room b s .answer ≡ accepted [] → same other name ≡ false → find other (hear width room b s .next .forms) ≡ find other (b .forms)
+pub finish-others : (width room : ℕ) (b : Bench) (s name other : List ℕ) (ls : List FormLine) → b .session ≡ collecting name ls → read width (kept s) ≡ command (file finish) → hear width room b s .answer ≡ accepted [] → same other name ≡ false → find other (hear width room b s .next .forms) ≡ find other (b .forms)
 finish-others width room b s name other ls was reads e apart =
     rw (finish-stores width room b s name ls was reads e) (find-stored-other (b .forms) name other ls apart)
 
 -- `FK` of a name deletes that form
-pub delete-frees : (width room : ℕ) (b : Bench) (s name : List ℕ) → b .session ≡ idle → same name star ≡ false → read width s ≡ command (file (delete name)) → hear width room b s ≡ done (without name (b .forms)) idle
+pub delete-frees : (width room : ℕ) (b : Bench) (s name : List ℕ) → b .session ≡ idle → same name star ≡ false → read width (kept s) ≡ command (file (delete name)) → hear width room b s ≡ done (without name (b .forms)) idle
 unfolding inIdle filed deleted if_then_else_
 delete-frees width room b s name was one reads = hear-idle width room b s _ was reads ∙ rw one
 
 -- `FK` of the star deletes every form
-pub delete-all : (width room : ℕ) (b : Bench) (s : List ℕ) → b .session ≡ idle → read width s ≡ command (file (delete star)) → hear width room b s ≡ done [] idle
+pub delete-all : (width room : ℕ) (b : Bench) (s : List ℕ) → b .session ≡ idle → read width (kept s) ≡ command (file (delete star)) → hear width room b s ≡ done [] idle
 unfolding inIdle filed deleted if_then_else_
 delete-all width room b s was reads = hear-idle width room b s _ was reads ∙ rw (same-self star)
 
 -- after `FK` of a name `FR` of that name is refused
-pub delete-recall : (width room more : ℕ) (b : Bench) (s t name : List ℕ) → b .session ≡ idle → same name star ≡ false → read width s ≡ command (file (delete name)) → read width t ≡ command (file (recall name)) → hear width more (hear width room b s .next) t .answer ≡ refused absent
+pub delete-recall : (width room more : ℕ) (b : Bench) (s t name : List ℕ) → b .session ≡ idle → same name star ≡ false → read width (kept s) ≡ command (file (delete name)) → read width (kept t) ≡ command (file (recall name)) → hear width more (hear width room b s .next) t .answer ≡ refused absent
 unfolding inIdle filed recalled refuse outcome done
 delete-recall width room more b s t name was one reads again =
     rw (delete-frees width room b s name was one reads)

@@ -1,6 +1,6 @@
 -- 'The states': what every line does in every state, and every take.
 use Rattle.paper.specs.Byte.{ℕ, suc, _-_, List, [], _∷_, _++_, Option, none, some, length, drop, leb, eqb, if_then_else_, same}
-use Rattle.paper.specs.Line.{long, control}
+use Rattle.paper.specs.Line.{kept, long, control}
 use Rattle.paper.specs.Command.{Define, FormLine, Filing, start, finish, inform, recall, delete, Command, empty, new, keep, file, ask, print, star}
 use Rattle.paper.specs.Refusal.{Refusal, tooLong, controlByte, notNow, overfull, isSpoiled, unsound, nameTaken, noRoom, absent, unfit, overrun, tooShort, notPrinting, Answer, accepted, refused}
 use Rattle.paper.specs.Read.{Reading, command, unread, read}
@@ -198,9 +198,9 @@ heard width room forms (ready ls answers) s = obeyed forms (ready ls answers) (i
 heard width room forms (printing ls answers n c i) s =
     obeyed forms (printing ls answers n c i) (inPrinting forms (printing ls answers n c i)) (read width s)
 
--- a line to a bench, with so much room in the lent reply buffer
+-- a line to a bench, with so much room in the lent reply buffer; CR and 1AH are dropped wherever they stand in it
 unfoldable pub hear : (width room : ℕ) → Bench → List ℕ → Outcome
-hear width room b s = heard width room (b .forms) (b .session) s
+hear width room b s = heard width room (b .forms) (b .session) (kept s)
 
 -- after the last set Idle, else the next
 unfoldable pub afterSet : List FormLine → List (List ℕ) → (n c i : ℕ) → Session

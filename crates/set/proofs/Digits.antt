@@ -1,6 +1,6 @@
 -- The digits of a counter: the number they write, the bound that their count sets, and writing them with zeros in front.
 use mathlib.Core.Path.{_≡_, refl, sym, _∙_}
-use mathlib.Core.Bool.{true, _&&_, and-true}
+use mathlib.Core.Bool.{true, false, _&&_, and-false}
 use mathlib.Core.List.{List, [], _∷_, _++_, append-nil}
 use Prim.Native.Nat.{ℕ, suc, _+_, _-_, _*_, _^_, _≤_, _<_}
 use native.Mathlib.Nat.{pow-suc, pow-zero, pow-le-pow-right, mul-le-mul}
@@ -8,66 +8,87 @@ use native.Mathlib.Omega.{arith}
 use native.Mathlib.Numerals.{add-one}
 use lib.ListN.{length, drop, getD, replicate, drop-of-length-le}
 use lib.Seq.{drop-cons}
-use lib.Dec.{leb, ltb}
-use borrow.Author.Tests.{leb-true, lt-ltb}
+use lib.Dec.{leb}
+use borrow.Author.Tests.{leb-true, le-leb, lt-leb}
 use Rattle.paper.specs.Byte.{every, between, decimal}
 use Rattle.paper.specs.Line.{isDigit}
-use Rattle.paper.specs.Set.{amount, valueAt, holds, padded}
-use Rattle.paper.proofs.Law.{and-left, and-right}
-use Rattle.command.specs.View.{stepOf}
-use Rattle.command.specs.declared.Step.{Step}
-use Rattle.command.specs.declared.Step.the-variants.{Up, Down}
-use Rattle.set.specs.Count.{sizeOf}
+use Rattle.paper.specs.Set.{amount, padded}
+use Rattle.paper.proofs.Law.{if-true, if-false, and-left, and-right}
+use Rattle.set.specs.Judge.{amountIn}
+use Rattle.set.specs.declared.answer.Amount.the-variants.{Is, Not}
 use Rattle.text.specs.Write.{Writes}
 use Rattle.text.proofs.Written.{Writing, writing-begins, writing-turns, writing-room, writing-ends, writes-length}
-
--- the digits before a place are summed up
-pub record Summing (a : List ℕ) (n i : ℕ) : Type 0 where
-  pub left : amount 0 a ≡ amount n (drop i a)
-  pub small : n < 10 ^ i
-  pub inside : i ≤ length a
-  pub digits : every isDigit (drop i a) ≡ true
-
-pub sum-begins : (a : List ℕ) → every isDigit a ≡ true → Summing a 0 0
-sum-begins a e = record { left = refl; small = rw pow-zero (omega arith); inside = omega arith; digits = e }
-
--- the byte at a place is a digit
-here : (a : List ℕ) (n i : ℕ) → Summing a n i → i < length a → (isDigit (getD a i 0) ≡ true) × (every isDigit (drop (i + 1) a) ≡ true)
-unfolding every
-here a n i s h =
-    let both : (isDigit (getD a i 0) && every isDigit (drop (suc i) a)) ≡ true = rw (drop-cons a i 0 h) at (s .digits) in
-    (and-left (isDigit (getD a i 0)) (every isDigit (drop (suc i) a)) both, rw add-one (and-right (isDigit (getD a i 0)) (every isDigit (drop (suc i) a)) both))
-
-pub digit-low : (a : List ℕ) (n i : ℕ) → Summing a n i → i < length a → 48 ≤ getD a i 0
-unfolding isDigit between
-digit-low a n i s h = leb-true 48 (getD a i 0) (and-left (leb 48 (getD a i 0)) (leb (getD a i 0) 57) (here a n i s h .0))
-
-pub digit-high : (a : List ℕ) (n i : ℕ) → Summing a n i → i < length a → getD a i 0 ≤ 57
-unfolding isDigit between
-digit-high a n i s h = leb-true (getD a i 0) 57 (and-right (leb 48 (getD a i 0)) (leb (getD a i 0) 57) (here a n i s h .0))
 
 -- so many digits write a number below so many powers of ten
 pub power-nine : (i : ℕ) → i ≤ 9 → 10 ^ i ≤ 1000000000
 power-nine i h = pow-le-pow-right {n = 10} (omega arith) {i = i} {j = 9} h
 
+-- the bytes from a place on decide whether all are digits: a digit there leaves it to the next, another byte does not
+module _ (a : List ℕ) (i : ℕ) (e : every isDigit a ≡ every isDigit (drop i a)) where
+  digits-on : i < length a → 48 ≤ getD a i 0 → getD a i 0 ≤ 57 → every isDigit a ≡ every isDigit (drop (i + 1) a)
+  unfolding every isDigit between
+  digits-on h low high = e ∙ rw (drop-cons a i 0 h, add-one, le-leb 48 (getD a i 0) low, le-leb (getD a i 0) 57 high)
+
+  digits-below : i < length a → getD a i 0 < 48 → every isDigit a ≡ false
+  unfolding every isDigit between
+  digits-below h low = e ∙ rw (drop-cons a i 0 h, lt-leb 48 (getD a i 0) low)
+
+  digits-above : i < length a → 57 < getD a i 0 → every isDigit a ≡ false
+  unfolding every isDigit between
+  digits-above h high = e ∙ rw (drop-cons a i 0 h, lt-leb (getD a i 0) 57 high, and-false)
+
+  digits-all : length a ≤ i → every isDigit a ≡ true
+  unfolding every
+  digits-all h = e ∙ rw (drop-of-length-le a {i = i} h)
+
+-- the digits before a place are summed up, and the bytes from it on decide
+pub record Summing (a : List ℕ) (n i : ℕ) : Type 0 where
+  pub left : amount 0 a ≡ amount n (drop i a)
+  pub small : n < 10 ^ i
+  pub inside : i ≤ length a
+  pub digits : every isDigit a ≡ every isDigit (drop i a)
+
+pub sum-begins : (a : List ℕ) → Summing a 0 0
+sum-begins a = record { left = refl; small = rw pow-zero (omega arith); inside = omega arith; digits = refl }
+
 pub sum-small : (a : List ℕ) (n i : ℕ) → Summing a n i → length a ≤ 9 → n < 1000000000
 sum-small a n i s h = omega (arith, power-nine i (omega (arith, s .inside)), s .small)
 
-pub sum-turns : (a : List ℕ) (n i : ℕ) → Summing a n i → i < length a → Summing a (n * 10 + (getD a i 0 - 48)) (i + 1)
+-- a byte below the digits, or above them
+pub sum-low : (a : List ℕ) (n i : ℕ) → Summing a n i → i < length a → getD a i 0 < 48 → Not ≡ amountIn a
+unfolding amountIn
+sum-low a n i s h low = sym (if-false _ _ _ (digits-below a i (s .digits) h low))
+
+pub sum-high : (a : List ℕ) (n i : ℕ) → Summing a n i → i < length a → 57 < getD a i 0 → Not ≡ amountIn a
+unfolding amountIn
+sum-high a n i s h high = sym (if-false _ _ _ (digits-above a i (s .digits) h high))
+
+-- a digit more
+pub sum-turns : (a : List ℕ) (n i : ℕ) → Summing a n i → i < length a → 48 ≤ getD a i 0 → getD a i 0 ≤ 57 → Summing a (n * 10 + (getD a i 0 - 48)) (i + 1)
 unfolding amount
-sum-turns a n i s h =
+sum-turns a n i s h low high =
     record {
       left = s .left ∙ rw (drop-cons a i 0 h, add-one);
-      small = rw (add-one, pow-suc) (omega (arith, s .small, digit-high a n i s h));
+      small = rw (add-one, pow-suc) (omega (arith, s .small));
       inside = omega arith;
-      digits = here a n i s h .1;
+      digits = digits-on a i (s .digits) h low high;
     }
 
-pub sum-ends : (a : List ℕ) (n i : ℕ) → Summing a n i → length a ≤ i → (n ≡ amount 0 a) × (n < 10 ^ length a)
-unfolding amount
+pub sum-ends : (a : List ℕ) (n i : ℕ) → Summing a n i → length a ≤ i → Is n ≡ amountIn a
+unfolding amount amountIn
 sum-ends a n i s h =
-    let all : i ≡ length a = omega (arith, s .inside) in
-    (sym (s .left ∙ rw (drop-of-length-le a {i = i} h)), rw all at (s .small))
+    let is : n ≡ amount 0 a = sym (s .left ∙ rw (drop-of-length-le a {i = i} h)) in
+    sym (if-true _ _ _ (digits-all a i (s .digits) h) ∙ rw is)
+
+-- digits write a number below a power of ten
+pub amount-below : (a : List ℕ) (n k : ℕ) → n < 10 ^ k → every isDigit a ≡ true → amount n a < 10 ^ (k + length a)
+unfolding amount every isDigit between
+amount-below [] n k h e = let none : k + 0 ≡ k = omega arith in rw none h
+amount-below (b ∷ s) n k h e =
+    let digit = and-left (leb 48 b && leb b 57) (every isDigit s) e in
+    let high : b ≤ 57 = leb-true b 57 (and-right (leb 48 b) _ digit) in
+    let place : k + suc (length s) ≡ suc k + length s = omega arith in
+    rw place (amount-below s (n * 10 + (b - 48)) (suc k) (rw pow-suc (omega arith)) (and-right (leb 48 b && leb b 57) _ e))
 
 -- a power of ten, factor by factor
 pub power-turns : (n i : ℕ) → n ≡ 10 ^ i → n * 10 ≡ 10 ^ (i + 1)
@@ -121,37 +142,6 @@ number-ends old at value digits new newer next after there z h w =
 -- a step's product with a set's number
 pub product : (i n : ℕ) → i ≤ 65535 → n ≤ 9999 → i * n ≤ 655284465
 product i n h k = mul-le-mul h k
-
--- how far a known step goes
-pub size-up : (step : Step) (n : ℕ) → sizeOf step ≤ 9999 → step ≡ Up n → n ≤ 9999
-unfolding sizeOf
-size-up step n h e = rw e at h
-
-pub size-down : (step : Step) (n : ℕ) → sizeOf step ≤ 9999 → step ≡ Down n → n ≤ 9999
-unfolding sizeOf
-size-down step n h e = rw e at h
-
--- a counter's value, up or down
-pub value-up : (step : Step) (n start i : ℕ) → step ≡ Up n → start + i * n ≡ valueAt (stepOf step) start i
-unfolding valueAt stepOf
-value-up step n start i e = rw e
-
-pub value-down : (step : Step) (n start i : ℕ) → step ≡ Down n → start - i * n ≡ valueAt (stepOf step) start i
-unfolding valueAt stepOf
-value-down step n start i e = rw e
-
-pub value-none : (step : Step) (n start i : ℕ) → step ≡ Down n → start < i * n → 0 ≡ valueAt (stepOf step) start i
-unfolding valueAt stepOf
-value-none step n start i e h = rw e (omega arith)
-
--- its bounds, up or down
-pub holds-up : (len : ℕ) (step : Step) (n start i top : ℕ) → step ≡ Up n → top ≡ 10 ^ len → ltb (start + i * n) top ≡ holds len (stepOf step) start i
-unfolding holds stepOf
-holds-up len step n start i top e t = rw (e, t)
-
-pub holds-down : (len : ℕ) (step : Step) (n start i : ℕ) → step ≡ Down n → start < 10 ^ len → leb (i * n) start ≡ holds len (stepOf step) start i
-unfolding holds stepOf
-holds-down len step n start i e h = rw (e, lt-ltb (start - i * n) (10 ^ len) (omega arith)) (sym (and-true (leb (i * n) start)))
 
 -- writing the digits keeps the buffer's length
 pub number-length : (old : List ℕ) (at value digits : ℕ) (new newer : List ℕ) (next after there : ℕ) → Zeros old at value digits new next there → digits ≤ there

@@ -1,15 +1,10 @@
--- A line of a set with a value in place, in pieces.
+-- The part of a text that is shown.
 use Prim.Native.Nat.{ℕ, _≤_}
 use mathlib.Core.Bool.{Bool, true, false}
-use mathlib.Core.List.{List, [], _∷_, _++_}
+use mathlib.Core.List.{List}
 use Rattle.form.specs.Walk.{partOf}
 
--- a line up to its value: a value that stands alone has its opening quote still to come
-unfoldable pub headText : List ℕ → Bool → List ℕ
-headText head true = head ++ (34 ∷ [])
-headText head false = head
-
--- the part that is shown: of the answers, or of the form's text
+-- a part of the answers, or of the form's text
 unfoldable pub shownPart : Bool → List ℕ → List ℕ → ℕ → ℕ → List ℕ
 shownPart true text answers start end = partOf answers start end
 shownPart false text answers start end = partOf text start end

@@ -1,6 +1,7 @@
-pub mod Count
-pub mod Fill
-pub mod Told
+pub mod Answers
+pub mod Made
+pub mod Values
 pub mod Taking
-pub mod Ending
-pub mod Showing
+pub mod Judge
+pub mod Fill
+pub mod Piece

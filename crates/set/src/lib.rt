@@ -1,6 +1,4 @@
-// Print sets: what each value shows, and one set into a buffer.
+// What a form's plan makes of answers: whether one fits, what it is worth, whether counters hold, and a set.
+pub mod answer;
 pub mod count;
-pub mod ending;
-pub mod fill;
 pub mod take;
-pub mod values;

@@ -1,116 +1,195 @@
 // One print set into a buffer, and whether every set keeps the counters within their bounds.
-ghost use Prim.Native.Nat.{_+_, _≤_};
+ghost use Prim.Native.Nat.{_+_, _-_, _/_, _≤_, _<_};
 ghost use mathlib.Core.Path.{_≡_};
-ghost use lib.ListN.{length};
-ghost use Rattle.paper.specs.Form.{asked};
-ghost use Rattle.paper.specs.Set.{holdsTo, allHold, setOf};
+ghost use lib.ListN.{length, getD};
 ghost use Rattle.text.specs.Write.{Writes};
-ghost use Rattle.form.specs.Walk.{partOf};
-ghost use Rattle.set.specs.Showing.{Drawing, drawingShown, lineShown};
-ghost use Rattle.set.specs.Taking.{Answered, Taking, Fits, Tells};
-use crate::count::amount;
-use crate::count::holds;
-use crate::count::value_at;
-use crate::ending::Ending;
-use crate::ending::ending_of;
-use crate::fill::put_counter;
-use crate::fill::put_variable;
-use crate::values::Values;
-use form::asked::Define;
-use form::asked::Line;
-use form::asked::line_in;
-use form::walk::line_end;
+ghost use Rattle.set.specs.Fill.{shownPart, Within};
+ghost use Rattle.set.specs.Values.{Told, countAt, valueShow, openingIn, behindShow};
+ghost use Rattle.set.specs.Piece.{PieceTold, PiecesTold, DefineTold, pieceShow, piecesShow, holdsAt};
+ghost use Rattle.set.specs.Taking.{Filled, Taking, Holds, Puts};
+use crate::count::put_count;
+use crate::count::ten_to;
+use form::plan::DEFINES;
+use form::plan::DOWN;
+use form::plan::PIECES;
+use form::plan::UP;
+use form::plan::VARIABLE;
 use text::write::put;
 use text::write::put_all;
 use text::write::put_decimal;
+use text::write::put_escaped;
 
-// A definition with its answer stays within its bounds in the first set and in a last one.
-fn define_holds(define: Define, a: &[u8], last: usize) -> bool
-    requires { ⌜ Fits define (now a) ⌝ }
+// Definition k stays within its bounds in a last set, as it does in the first.
+fn define_holds(plan: &[usize], values: &[usize], k: usize, last: usize) -> bool
+    requires { ⌜ DefineTold (now plan) (now values) k ⌝ }
     requires { ⌜ last ≤ 65535 ⌝ }
-    ensures { λ r. ⌜ ((f : Fits define (now (a .entry))) → r ≡ holdsTo last (f .asks) (now (a .entry))) ⌝ }
+    ensures { λ r. ⌜ r ≡ holdsAt (now (plan .entry)) (now (values .entry)) k last ⌝ }
 {
-    match define {
-        Define::Counter { n: _, len, step } => holds(len, step, amount(a), last),
-        Define::Variable { n: _, len: _ } => true,
+    let at = DEFINES + k * 4;
+    let kind = plan[at];
+    if kind == VARIABLE {
+        return true;
     }
+    let by = last * plan[at + 2];
+    let first = values[plan[at + 3] * 4];
+    if kind == DOWN {
+        return by <= first;
+    }
+    first + by < ten_to(plan[at + 1])
 }
 
-// Every counter of a form with these answers stays within its bounds up to a last set.
-pub fn all_hold(text: &[u8], answers: &[u8], last: usize) -> bool
-    requires { ⌜ Answered (now text) (now answers) ⌝ }
+// Every counter stays within its bounds up to a last set.
+pub fn all_hold(plan: &[usize], values: &[usize], last: usize) -> bool
+    requires { ⌜ Filled (now plan) (now values) ⌝ }
     requires { ⌜ last ≤ 65535 ⌝ }
-    ensures { λ r. ⌜ ((t : Answered (now (text .entry)) (now (answers .entry))) → r ≡ allHold last (asked (t .lines)) (t .given)) ⌝ }
+    ensures { λ r. ⌜ Holds (now (plan .entry)) (now (values .entry)) last r ⌝ }
 {
-    let mut at = 0;
-    let mut given = 0;
-    while at < text.len() {
-        let end = line_end(text, at);
-        let line = line_in(&text[at..end]);
-        at = end + 1;
-        let Line::Definition { define } = line else {
-            continue;
-        };
-        let close = line_end(answers, given);
-        if !define_holds(define, &answers[given..close], last) {
+    let count = plan[0];
+    let mut k = 0;
+    while k < count {
+        if !define_holds(plan, values, k, last) {
             return false;
         }
-        given = close + 1;
+        k += 1;
     }
     true
 }
 
-// What is known of the values with one definition more and its answer.
-fn with_value(
-    v: Values,
-    define: Define,
-    answers: &[u8],
+// The part that is shown: of the form's text, or of the answers.
+pub fn shown<'a>(
+    text: &'a [u8],
+    answers: &'a [u8],
+    answered: bool,
     start: usize,
     end: usize,
+) -> &'a [u8]
+    requires { ⌜ Within answered (length (now text)) (length (now answers)) start end ⌝ }
+    ensures { λ r. ⌜ now r ≡ shownPart answered (now (text .entry)) (now (answers .entry)) start end ⌝ }
+{
+    if answered {
+        return &answers[start..end];
+    }
+    &text[start..end]
+}
+
+// A counter's value in set i, in which it holds.
+fn value_at(kind: usize, first: usize, step: usize, i: usize) -> usize
+    requires { ⌜ (first < 1000000000) × (step ≤ 9999) × (i ≤ 65535) ⌝ }
+    ensures { λ r. ⌜ r ≡ countAt kind first step i ⌝ }
+{
+    if kind == UP {
+        return first + i * step;
+    }
+    let down = i * step;
+    if first < down {
+        return 0;
+    }
+    first - down
+}
+
+// A value in set i.
+fn put_value<'a>(
+    out: &mut [u8],
+    at: usize,
+    text: &'a [u8],
+    answers: &'a [u8],
+    values: &[usize],
+    value: usize,
     i: usize,
-) -> Values
-    requires { ⌜ (start ≤ end) × (end ≤ length (now answers)) × (i ≤ 65535) ⌝ }
-    requires { ⌜ Fits define (partOf (now answers) start end) ⌝ }
-    ensures { λ r. ⌜ ((f : Fits define (partOf (now (answers .entry)) start end)) → Tells v (now (answers .entry)) (f .asks) (partOf (now (answers .entry)) start end) i r) ⌝ }
+) -> usize
+    requires { ⌜ Told (now answers) (now values) value i ⌝ }
+    requires { ⌜ at + length (valueShow (now answers) (now values) value i) ≤ length (now out) ⌝ }
+    ensures { λ r. ⌜ Writes (now (out .entry)) at (valueShow (now (answers .entry)) (now (values .entry)) value i) (now (out .exit)) r ⌝ }
 {
-    match define {
-        Define::Counter { n, len: _, step } => v.with_counter(
-            n,
-            value_at(step, amount(&answers[start..end]), i),
-            end - start,
-        ),
-        Define::Variable { n, len: _ } => v.with_variable(n, start, end),
+    let place = value * 4;
+    let first = values[place];
+    let second = values[place + 1];
+    let kind = values[place + 2];
+    if kind == VARIABLE {
+        return put_escaped(out, at, shown(text, answers, true, first, second));
     }
+    put_count(out, at, value_at(kind, first, values[place + 3], i), second)
 }
 
-// A line of the form that draws, with its value in place.
-fn put_drawn<'a>(out: &mut [u8], at: usize, line: &'a [u8], v: Values, answers: &'a [u8]) -> usize
-    requires { ⌜ ((t : Drawing (now line) v (now answers)) × (at + length (drawingShown (now line) v (now answers) t) ≤ length (now out))) ⌝ }
-    ensures { λ r. ⌜ ((t : Drawing (now (line .entry)) v (now (answers .entry))) → Writes (now (out .entry)) at (drawingShown (now (line .entry)) v (now (answers .entry)) t) (now (out .exit)) r) ⌝ }
+// The quote that a value opens where it stands alone.
+fn put_opening(out: &mut [u8], at: usize, behind: usize) -> usize
+    requires { ⌜ at + length (openingIn behind) ≤ length (now out) ⌝ }
+    ensures { λ r. ⌜ Writes (now (out .entry)) at (openingIn behind) (now (out .exit)) r ⌝ }
 {
-    match ending_of(line) {
-        Ending::Whole => put_all(out, at, line),
-        Ending::Counter { n, tail, opens } => put_counter(out, at, line, tail, opens, v, n),
-        Ending::Variable { n, tail, opens } => put_variable(
-            out,
-            at,
-            line,
-            tail,
-            opens,
-            v,
-            n,
-            answers,
-        ),
+    if behind % 2 == 0 {
+        return put(out, at, b'"');
     }
+    at
 }
 
-// The same with its LF.
-fn put_line<'a>(out: &mut [u8], at: usize, line: &'a [u8], v: Values, answers: &'a [u8]) -> usize
-    requires { ⌜ ((t : Drawing (now line) v (now answers)) × (at + length (lineShown (now line) v (now answers) t) ≤ length (now out))) ⌝ }
-    ensures { λ r. ⌜ ((t : Drawing (now (line .entry)) v (now (answers .entry))) → Writes (now (out .entry)) at (lineShown (now (line .entry)) v (now (answers .entry)) t) (now (out .exit)) r) ⌝ }
+// Behind a piece: a value with the quote that closes it, and the one that opens it where it stands alone; or no byte.
+fn put_behind<'a>(
+    out: &mut [u8],
+    at: usize,
+    text: &'a [u8],
+    answers: &'a [u8],
+    values: &[usize],
+    behind: usize,
+    i: usize,
+) -> usize
+    requires { ⌜ ((behind ≡ 0 → ⊥) → Told (now answers) (now values) ((behind - 1) / 2) i) ⌝ }
+    requires { ⌜ at + length (behindShow (now answers) (now values) behind i) ≤ length (now out) ⌝ }
+    ensures { λ r. ⌜ Writes (now (out .entry)) at (behindShow (now (answers .entry)) (now (values .entry)) behind i) (now (out .exit)) r ⌝ }
 {
-    let a = put_drawn(out, at, line, v, answers);
-    put(out, a, 10)
+    if behind == 0 {
+        return at;
+    }
+    let value = (behind - 1) / 2;
+    let next = put_opening(out, at, behind);
+    let end = put_value(out, next, text, answers, values, value, i);
+    put(out, end, b'"')
+}
+
+// Piece k of a plan, with what goes behind it.
+fn put_piece<'a>(
+    out: &mut [u8],
+    at: usize,
+    text: &'a [u8],
+    answers: &'a [u8],
+    plan: &[usize],
+    values: &[usize],
+    k: usize,
+    i: usize,
+) -> usize
+    requires { ⌜ PieceTold (now text) (now answers) (now plan) (now values) k i ⌝ }
+    requires { ⌜ at + length (pieceShow (now text) (now answers) (now plan) (now values) k i) ≤ length (now out) ⌝ }
+    ensures { λ r. ⌜ Writes (now (out .entry)) at (pieceShow (now (text .entry)) (now (answers .entry)) (now (plan .entry)) (now (values .entry)) k i) (now (out .exit)) r ⌝ }
+{
+    let place = PIECES + k * 3;
+    let start = plan[place];
+    let end = plan[place + 1];
+    let piece = shown(text, answers, false, start, end);
+    let next = put_all(out, at, piece);
+    put_behind(out, next, text, answers, values, plan[place + 2], i)
+}
+
+// All pieces of a plan.
+fn put_pieces<'a>(
+    out: &mut [u8],
+    at: usize,
+    text: &'a [u8],
+    answers: &'a [u8],
+    plan: &[usize],
+    values: &[usize],
+    i: usize,
+) -> usize
+    requires { ⌜ PiecesTold (now text) (now answers) (now plan) (now values) i ⌝ }
+    requires { ⌜ at + length (piecesShow (now text) (now answers) (now plan) (now values) i 0 (getD (now plan) 1 0)) ≤ length (now out) ⌝ }
+    ensures { λ r. ⌜ Writes (now (out .entry)) at (piecesShow (now (text .entry)) (now (answers .entry)) (now (plan .entry)) (now (values .entry)) i 0 (getD (now (plan .entry)) 1 0)) (now (out .exit)) r ⌝ }
+{
+    let count = plan[1];
+    let mut next = at;
+    let mut k = 0;
+    while k < count {
+        next = put_piece(out, next, text, answers, plan, values, k, i);
+        k += 1;
+    }
+    next
 }
 
 // Set i at the front of a buffer with room for the longest; its length.
@@ -118,31 +197,18 @@ pub fn put_set<'a>(
     out: &mut [u8],
     text: &'a [u8],
     answers: &'a [u8],
+    plan: &[usize],
+    values: &[usize],
     copies: usize,
     i: usize,
 ) -> usize
-    requires { ⌜ Taking (now text) (now answers) copies i ⌝ }
+    requires { ⌜ Taking (now text) (now answers) (now plan) (now values) copies i ⌝ }
     requires { ⌜ 10291 ≤ length (now out) ⌝ }
-    ensures { λ r. ⌜ ((t : Taking (now (text .entry)) (now (answers .entry)) copies i) → Writes (now (out .entry)) 0 (setOf (t .form .lines) (t .form .given) copies i) (now (out .exit)) r) ⌝ }
+    ensures { λ r. ⌜ Puts (now (text .entry)) (now (answers .entry)) (now (plan .entry)) (now (values .entry)) copies i (now (out .entry)) (now (out .exit)) r ⌝ }
 {
-    let mut v = Values::new();
-    let mut next = put_all(out, 0, b"N\n");
-    let mut at = 0;
-    let mut given = 0;
-    while at < text.len() {
-        let end = line_end(text, at);
-        let bytes = &text[at..end];
-        let line = line_in(bytes);
-        at = end + 1;
-        let Line::Definition { define } = line else {
-            next = put_line(out, next, bytes, v, answers);
-            continue;
-        };
-        let close = line_end(answers, given);
-        v = with_value(v, define, answers, given, close, i);
-        given = close + 1;
-    }
-    let a = put_all(out, next, b"P1,");
+    let next = put_all(out, 0, b"N\n");
+    let end = put_pieces(out, next, text, answers, plan, values, i);
+    let a = put_all(out, end, b"P1,");
     let b = put_decimal(out, a, copies);
-    put(out, b, 10)
+    put(out, b, b'\n')
 }

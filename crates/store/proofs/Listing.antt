@@ -9,8 +9,8 @@ use lib.Seq.{take-suc, take-all}
 use Rattle.text.specs.Write.{Writes}
 use Rattle.text.proofs.Written.{writes-none, writes-then, writes-length}
 use Rattle.paper.specs.Byte.{bytes}
-use Rattle.store.specs.Packed.{Entry, entry, Short, Kept, nameIn, linesOf, listingOf}
-use Rattle.store.specs.declared.Store.{Store}
+use Rattle.store.specs.Packed.{Store, Entry, entry, Short, Kept, nameIn, linesOf, listingOf}
+use Rattle.store.specs.Lent.{Stocked}
 use Rattle.store.proofs.Look.{formAt, counts, len-at, name-at, name-part, len-short}
 
 -- a name and then LF
@@ -35,51 +35,56 @@ lines-short (e ∷ es) zero s = omega arith
 lines-short (e ∷ es) (suc i) s = rw length-append (omega (arith, lines-short es i (s .1), s .0))
 
 -- the lines of the forms before a number stand from a place up to the next
-pub record Naming (self : Store) (names old : List ℕ) (at : ℕ) (new : List ℕ) (next i : ℕ) : Type 0 where
-  pub copy : names ≡ self .names
+pub record Naming (self : Store) (old : List ℕ) (at : ℕ) (new : List ℕ) (next i : ℕ) : Type 0 where
   pub inside : i ≤ self .count
   pub writes : (k : Kept self) → Writes old at (linesOf (take i (k .forms))) new next
 
-pub naming-begins : (self : Store) (names old : List ℕ) (at : ℕ) → names ≡ self .names → at + 136 ≤ length old → Naming self names old at old at 0
+pub naming-begins : (self : Store) (old : List ℕ) (at : ℕ) → at + 136 ≤ length old → Naming self old at old at 0
 unfolding linesOf
-naming-begins self names old at e h =
-    record { copy = e; inside = omega arith; writes = λ k. writes-none old at (omega arith) }
+naming-begins self old at h =
+    record { inside = omega arith; writes = λ k. writes-none old at (omega arith) }
 
-pub naming-room : (self : Store) (names old : List ℕ) (at : ℕ) (new : List ℕ) (next i : ℕ) (k : Kept self) → Naming self names old at new next i
-    → at + 136 ≤ length old → i < self .count → next + getD (self .lens) i 0 < length new
-naming-room self names old at new next i k n room h =
+-- the next name is short, and there is room for its line
+pub naming-short : (self : Store) (old : List ℕ) (at : ℕ) (new : List ℕ) (next i len : ℕ) → Stocked self → Naming self old at new next i
+    → i < self .count → len ≡ getD (self .lens) i 0 → len ≤ 16
+naming-short self old at new next i len k n h e = rw e (len-short self (k .kept) i h)
+
+pub naming-room : (self : Store) (old : List ℕ) (at : ℕ) (new : List ℕ) (next i len : ℕ) → Stocked self → Naming self old at new next i
+    → at + 136 ≤ length old → i < self .count → len ≡ getD (self .lens) i 0 → next + len < length new
+naming-room self old at new next i len k n room h e =
+    let forms = k .kept .forms in
     omega (
       arith,
-      writes-length old at (linesOf (take i (k .forms))) new next (n .writes k),
-      n .writes k .ends,
-      lines-short (k .forms) i (k .short),
-      len-short self k i h,
-      counts self k,
-      k .few,
+      writes-length old at (linesOf (take i forms)) new next (n .writes (k .kept)),
+      n .writes (k .kept) .ends,
+      lines-short forms i (k .kept .short),
+      len-short self (k .kept) i h,
+      counts self (k .kept),
     )
 
-pub naming-length : (self : Store) (names old : List ℕ) (at : ℕ) (new : List ℕ) (next i : ℕ) (k : Kept self) → Naming self names old at new next i → length new ≡ length old
-naming-length self names old at new next i k n = writes-length old at (linesOf (take i (k .forms))) new next (n .writes k)
+pub naming-length : (self : Store) (old : List ℕ) (at : ℕ) (new : List ℕ) (next i : ℕ) → Stocked self → Naming self old at new next i → length new ≡ length old
+naming-length self old at new next i s n =
+    let k = s .kept in
+    writes-length old at (linesOf (take i (k .forms))) new next (n .writes k)
 
-pub naming-turns : (self : Store) (names old : List ℕ) (at : ℕ) (new newer : List ℕ) (next end i len : ℕ) → Naming self names old at new next i
-    → i < self .count → len ≡ getD (self .lens) i 0 → Writes new next (nameIn names i len ++ (10 ∷ [])) newer end
-    → Naming self names old at newer end (i + 1)
+pub naming-turns : (self : Store) (old : List ℕ) (at : ℕ) (new newer : List ℕ) (next end i len : ℕ) → Naming self old at new next i
+    → i < self .count → len ≡ getD (self .lens) i 0 → Writes new next (nameIn (self .names) i len ++ (10 ∷ [])) newer end
+    → Naming self old at newer end (i + 1)
 unfolding nameIn
-naming-turns self names old at new newer next end i len n h l w =
+naming-turns self old at new newer next end i len n h l w =
     record {
-      copy = n .copy;
       inside = omega arith;
       writes = λ k.
-          let is : take len (drop (i * 16) names) ≡ formAt (k .forms) i .name = rw (l, len-at self k i h, n .copy) (name-at self k i h) in
+          let is : take len (drop (i * 16) (self .names)) ≡ formAt (k .forms) i .name = rw (l, len-at self k i h) (name-at self k i h) in
           let more : take (i + 1) (k .forms) ≡ take i (k .forms) ++ (formAt (k .forms) i ∷ []) =
           rw add-one (unfold formAt in take-suc (k .forms) i (entry [] []) (omega (arith, counts self k))) in
           rw (more, lines-more (take i (k .forms)) (formAt (k .forms) i), ← is)
-          (writes-then old at (linesOf (take i (k .forms))) new next (take len (drop (i * 16) names) ++ (10 ∷ [])) newer end (n .writes k) w);
+          (writes-then old at (linesOf (take i (k .forms))) new next (take len (drop (i * 16) (self .names)) ++ (10 ∷ [])) newer end (n .writes k) w);
     }
 
-pub naming-ends : (self : Store) (names old : List ℕ) (at : ℕ) (new : List ℕ) (next i : ℕ) → Naming self names old at new next i → self .count ≤ i
+pub naming-ends : (self : Store) (old : List ℕ) (at : ℕ) (new : List ℕ) (next i : ℕ) → Naming self old at new next i → self .count ≤ i
     → (k : Kept self) → Writes old at (linesOf (k .forms)) new next
-naming-ends self names old at new next i n h k =
+naming-ends self old at new next i n h k =
     rw (← take-all i (k .forms) (omega (arith, counts self k))) (n .writes k)
 
 -- the heading, and then the names or that there is none

@@ -6,8 +6,8 @@ use native.Mathlib.Omega.{arith}
 use native.Mathlib.Numerals.{add-one}
 use lib.ListN.{length, take, drop, getD, replicate, length-append, length-map, List·getD-append}
 use lib.Seq.{drop-cons, take-suc, take-append-seam, drop-append-add, take-nil}
-use Rattle.store.specs.Packed.{Entry, entry, slot, textsOf, namesOf, packed, nameIn, bytesAt, Short, Kept}
-use Rattle.store.specs.declared.Store.{Store}
+use Rattle.store.specs.Gap.{bytesAt}
+use Rattle.store.specs.Packed.{Store, Entry, entry, slot, textsOf, namesOf, packed, nameIn, Short, Kept}
 use Rattle.store.proofs.Packing.{slot-length, texts-more}
 use Rattle.text.specs.Write.{padded}
 use Rattle.text.proofs.Padded.{filled}
@@ -49,7 +49,7 @@ short-at [] i s h = absurd (omega arith)
 short-at (e ∷ es) zero s h = s .0
 short-at (e ∷ es) (suc i) s h = short-at es i (s .1) (omega arith)
 
-pub name-short : (self : Store) (k : Kept self) (i : ℕ) → i < self .count → length (formAt (k .forms) i .name) ≤ 16
+name-short : (self : Store) (k : Kept self) (i : ℕ) → i < self .count → length (formAt (k .forms) i .name) ≤ 16
 name-short self k i h = short-at (k .forms) i (k .short) (omega (arith, counts self k))
 
 -- a name at its slot, whatever stands behind
@@ -92,7 +92,7 @@ start-inside [] i = rw (take-nil i) (omega arith)
 start-inside (e ∷ es) zero = omega arith
 start-inside (e ∷ es) (suc i) = rw (length-append, length-append) (omega (arith, start-inside es i))
 
-pub text-room : (self : Store) (k : Kept self) (i : ℕ) → i < self .count → startOf (k .forms) i + length (formAt (k .forms) i .text) ≤ 4096
+text-room : (self : Store) (k : Kept self) (i : ℕ) → i < self .count → startOf (k .forms) i + length (formAt (k .forms) i .text) ≤ 4096
 text-room self k i h =
     omega (arith, start-inside (k .forms) (i + 1), start-more (k .forms) i (omega (arith, counts self k)), k .room)
 
@@ -108,22 +108,6 @@ len-short self k i h = omega (arith, len-at self k i h, name-short self k i h)
 pub size-room : (self : Store) (k : Kept self) (i start : ℕ) → i < self .count → start ≡ startOf (k .forms) i
     → start + getD (self .texts) i 0 ≤ 4096
 size-room self k i start h e = omega (arith, size-at self k i h, text-room self k i h)
-
--- a form's text at its place, whatever stands behind
-text-stands : (es : List Entry) (more : List ℕ) (i : ℕ) → i < length es
-    → bytesAt (textsOf es ++ more) (startOf es i) (length (formAt es i .text)) ≡ formAt es i .text
-unfolding textsOf startOf formAt bytesAt
-text-stands [] more i h = absurd (omega arith)
-text-stands (e ∷ es) more zero h = simp append-assoc (take-append-seam (e .text) _)
-text-stands (e ∷ es) more (suc i) h =
-    rw (append-assoc, length-append, drop-append-add) (text-stands es more i (omega arith))
-
-pub text-at : (self : Store) (k : Kept self) (i : ℕ) → i < self .count
-    → bytesAt (self .text) (startOf (k .forms) i) (length (formAt (k .forms) i .text)) ≡ formAt (k .forms) i .text
-unfolding packed padded
-text-at self k i h =
-    ap (λ s. bytesAt (s .text) (startOf (k .forms) i) (length (formAt (k .forms) i .text))) (k .is)
-    ∙ text-stands (k .forms) _ i (omega (arith, counts self k))
 
 -- the part of a text between two places
 pub part-between : (text : List ℕ) (start size : ℕ) → take (start + size - start) (drop start text) ≡ bytesAt text start size

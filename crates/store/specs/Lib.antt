@@ -1,1 +1,3 @@
+pub mod Gap
 pub mod Packed
+pub mod Lent

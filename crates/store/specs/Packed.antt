@@ -6,7 +6,6 @@ use mathlib.Core.Path.{_≡_}
 use Rattle.paper.specs.Byte.{bytes, if_then_else_, same}
 use Rattle.paper.specs.Line.{lf}
 use Rattle.text.specs.Write.{padded}
-use Rattle.store.specs.declared.Store.{Store}
 use Rattle.store.specs.declared.Found.{Found}
 use Rattle.store.specs.declared.Found.the-variants.{At, Absent}
 
@@ -32,6 +31,15 @@ unfoldable pub namesOf : List Entry → List ℕ
 namesOf [] = []
 namesOf (e ∷ es) = slot (e .name) ++ namesOf es
 
+-- a store in memory: the texts, the names, the lengths of both, the bytes that are used and the forms
+pub record Store : Type 0 where
+  pub text : List ℕ
+  pub names : List ℕ
+  pub texts : List ℕ
+  pub lens : List ℕ
+  pub used : ℕ
+  pub count : ℕ
+
 -- the store that holds these forms
 unfoldable pub packed : List Entry → Store
 packed es =
@@ -47,10 +55,6 @@ packed es =
 -- the name of so many bytes in a slot
 unfoldable pub nameIn : List ℕ → ℕ → ℕ → List ℕ
 nameIn names i len = take len (drop (i * 16) names)
-
--- so many bytes of a text from a place on
-unfoldable pub bytesAt : List ℕ → ℕ → ℕ → List ℕ
-bytesAt text start size = take size (drop start text)
 
 -- every name has at most sixteen bytes
 abbrev pub Short : List Entry → Type 0

@@ -1,8 +1,7 @@
--- Idle with an empty store.
-use borrow.Author.Needs.{needs}
-use Rattle.bench.proofs.Calling.{begins, begins-reached}
+-- A bench of zeros.
+use Rattle.bench.proofs.Beginning.{zeros-begin}
 use Rattle.bench.proofs.Bench.new.Statement.{statement}
 use Rattle.bench.proofs.Bench.new.Tie as tie
 
 pub new-spec : {M : Type 1} → statement M
-new-spec = tie.close (tie.spec (λ c κs. search needs) (λ c κs. search needs) (λ c. (search (begins-reached, begins), search begins)))
+new-spec = tie.close (tie.spec (λ c. zeros-begin))

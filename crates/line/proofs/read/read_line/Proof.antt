@@ -10,6 +10,6 @@ read-line-spec =
     (tie.spec
     (λ c. search whole)
     (λ c κs. search needs)
-    (λ c κs. c .before .is-clear .ensures .0 (c .if2 .taken))
-    (λ c. search whole)
+    (λ c κs. (c .before .is-clear .ensures .0 (c .if2 .taken), search needs))
+    (λ c. search needs)
     (λ c. search whole))

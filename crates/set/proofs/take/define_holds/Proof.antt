@@ -1,6 +1,7 @@
--- The definition's case gives the paper's clause; an answer that fits a counter holds in the first set.
+-- The kind gives the clause; the product is small.
 use borrow.Author.Needs.{needs}
-use Rattle.set.proofs.Holding.{counter-fits, counter-below, counter-holds, variable-holds}
+use native.Mathlib.Omega.{arith}
+use Rattle.set.proofs.Numbers.{define-few, define-by, define-sum, holds-variable, holds-down, holds-up}
 use Rattle.set.proofs.take.define_holds.Statement.{statement}
 use Rattle.set.proofs.take.define_holds.Tie as tie
 
@@ -9,11 +10,24 @@ define-holds-spec =
     tie.close
     (tie.spec
     (λ c. search needs)
-    (λ c κs. let k = counter-fits _ _ _ _ _ (c .before .before .before .before .pre .0) (c .before .define .given .1) in (k .digits, k .nine))
-    (λ c κs.
-    let b = c .before .before .before .before .before in
-    let k = counter-fits _ _ _ _ _ (b .pre .0) (c .before .before .define .given .1) in
-    (k .few, counter-below _ _ _ _ k (c .amount .ensures .1), k .size, b .pre .1))
     (λ c. search needs)
-    (λ c. search counter-holds)
-    (λ c. search variable-holds))
+    (λ c. search needs)
+    (λ c. search needs)
+    (λ c. search holds-variable)
+    (λ c. search needs)
+    (λ c. search needs)
+    (λ c. search needs)
+    (λ c. let b = c .before .before .before .before .before in omega (arith, define-by _ _ _ (b .pre .0) (search needs) _ (b .pre .1)))
+    (λ c. search needs)
+    (λ c. search needs)
+    (λ c. search needs)
+    (λ c. search needs)
+    (λ c. search needs)
+    (λ c. search needs)
+    (λ c. search holds-down)
+    (λ c. let b = c .before .before .before .before .before .before .before .before in omega (arith, define-sum _ _ _ (b .pre .0) (search needs) _ (b .pre .1)))
+    (λ c. search needs)
+    (λ c. search needs)
+    (λ c. search needs)
+    (λ c κs. let b = c .before .before .before .before .before .before .before .before .before in define-few _ _ _ (b .pre .0) (search needs))
+    (λ c. search holds-up))

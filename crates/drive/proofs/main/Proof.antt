@@ -1,0 +1,34 @@
+-- Arrays of zeros are a bench that is reached.
+use borrow.Author.Needs.{needs}
+use Rattle.bench.proofs.Beginning.{zeros-begin}
+use Rattle.drive.proofs.main.Statement.{statement}
+use Rattle.drive.proofs.main.Tie as tie
+
+play-requires : tie.Need-play-requires
+play-requires c κs = zeros-begin .reached
+
+pub main-spec : {M : Type 1} → statement M
+main-spec =
+    tie.close
+    (tie.spec
+    (λ c. search needs)
+    (λ c. search needs)
+    (λ c. search needs)
+    (λ c. search needs)
+    (λ c. search needs)
+    (λ c. search needs)
+    (λ c. search needs)
+    (λ c. search needs)
+    (λ c. search needs)
+    (λ c. search needs)
+    (λ c. search needs)
+    (λ c. search needs)
+    play-requires
+    (λ c. search needs)
+    (λ c κs. search needs)
+    (λ c κs. search needs)
+    (λ c κs. search needs)
+    (λ c. search needs)
+    (λ c κs. search needs)
+    (λ c κs. search needs)
+    (λ c. search needs))

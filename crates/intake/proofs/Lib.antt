@@ -1,3 +1,0 @@
-pub mod Feeding
-pub mod Cutting
-pub mod Moving

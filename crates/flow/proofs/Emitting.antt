@@ -91,7 +91,7 @@ abbrev Fed : Bench → ℕ → Piece → Output
 Fed b n (line w rest) = joined (heardSays (resting b w n) w) (emit (heard (resting b w n) w) rest)
 Fed b n (waits w) = silence
 
--- byte by byte, and by what was taken in, are the same
+-- going byte by byte says what the line and the rest of the input say
 emit-feed : (b : Bench) (n : ℕ) (s w : List ℕ) → emit (resting b w n) s ≡ Fed b n (feed w s)
 unfolding emit settled setsSay takes afterTakes step stepSays waiting feed if_then_else_
 emit-feed b n [] w = refl

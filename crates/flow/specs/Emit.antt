@@ -59,7 +59,7 @@ setsSay s = record { out = takes (s .left) (s .bench); err = [] }
 unfoldable pub waiting : Standing → List ℕ → Standing
 waiting s w = record { bench = s .bench; wait = w; lines = s .lines; left = s .left }
 
--- a byte of input: LF ends the line, CR and 1AH are dropped, and any other byte waits
+-- a byte of input: an LF has the line heard, a CR or 1AH leaves no trace, and all others wait
 unfoldable pub step : Standing → ℕ → Standing
 step s b = if eqb b lf then heard s (s .wait) else if isDropped b then s else waiting s (s .wait ++ (b ∷ []))
 

@@ -109,7 +109,7 @@ pub record Follows (session : Session) (plans : List ℕ) (c : Command) (answer 
 pub record Informs (session : Session) (store : Store) (old new : List ℕ) (answer : Answer) (next : Session) : Type 0 where
   pub informs : (plans : List ℕ) → Obeys session (record { store = store; plans = plans }) (C.file C.inform) old new answer next (record { store = store; plans = plans })
 
--- a command is obeyed, and no buffer is touched
+-- a command is obeyed without a word for the lent buffer
 pub record Files (session : Session) (shelf : Shelf) (c : Command) (answer : Answer) (next : Session) (more : Shelf) : Type 0 where
   pub files : (b : List ℕ) → Obeys session shelf c b b answer next more
 
@@ -221,6 +221,6 @@ pub record Drafted (session : Session) (shelf : Shelf) : Type 0 where
   pub at : At session shelf
   pub collects : Collects session
 
--- `FE` is obeyed as soon as the session is Idle
+-- what `FE` gives, once nothing is left in the session
 pub record Shelves (session : Session) (shelf : Shelf) (answer : Answer) (more : Shelf) : Type 0 where
   pub shelves : (next : Session) → next ≡ drafting M.Idle [] [] → Files session shelf (C.file C.finish) answer next more

@@ -1,4 +1,4 @@
--- `P` in Ready, by whether the counters hold.
+-- `P` in Ready: all counters hold, or one does not.
 use borrow.Author.Needs.{needs}
 use native.Mathlib.Omega.{arith}
 use borrow.Author.Tests.{not-true, not-false}

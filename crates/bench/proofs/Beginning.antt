@@ -5,9 +5,9 @@ use lib.ListN.{length, replicate}
 use Rattle.text.specs.Write.{padded}
 use Rattle.store.specs.Packed.{textsOf, namesOf, packed}
 use Rattle.session.specs.Memory.{Session, Shelf, drafts, drafting, entriesOf, plansOf, packedShelf}
-use Rattle.session.specs.Call.{memoryOf, codeOf, heldIn, filedIn, laid, Begins}
+use Rattle.call.specs.Call.{memoryOf, codeOf, heldIn, filedIn, laid, Begins}
 use Rattle.session.specs.declared.state.Mode.the-variants as M
-use Rattle.session.proofs.Leading.{begins-promised}
+use Rattle.call.proofs.Leading.{begins-promised}
 
 -- no form on the shelf
 shelf : Shelf

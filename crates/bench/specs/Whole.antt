@@ -1,5 +1,5 @@
 -- A bench by value is the memory that its arrays are.
-use Rattle.session.specs.Call.{Memory}
+use Rattle.call.specs.Call.{Memory}
 use Rattle.bench.specs.declared.Bench.{Bench}
 
 abbrev pub memory : Bench → Memory

@@ -1,14 +1,14 @@
 // The bench: it hears lines and gives sets. Its arrays are its own and never move; each call lends them.
 ghost use Prim.Native.Nat.{_≤_};
 ghost use lib.ListN.{length};
-ghost use Rattle.session.specs.Call.{Reached, Begins, HearsLine, TakesSet, SetsLeft};
-ghost use Rattle.flow.specs.Fill.{Starting};
+ghost use Rattle.call.specs.Call.{Reached, Begins, HearsLine, TakesSet, SetsLeft};
+ghost use Rattle.program.specs.Pass.{Starting};
 ghost use Rattle.bench.specs.Whole.{memory};
+use call::hear;
+use call::sets_left;
+use call::take;
 use command::Answer;
-use flow::run::run;
-use session::call::hear;
-use session::call::sets_left;
-use session::call::take;
+use program::run;
 
 // The forms' texts and names, the lengths of both, the forms' plans and the store's numbers; then the session: the draft's name and text,
 // the answers, what they are worth, and the session's numbers.

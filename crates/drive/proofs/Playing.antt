@@ -11,7 +11,7 @@ use borrow.Author.Tests.{ltb-true, ltb-false}
 use Rattle.paper.proofs.Test.{either}
 use Rattle.text.specs.Place.{from}
 use Rattle.form.specs.Walk.{firstLine}
-use Rattle.session.specs.Call.{Memory, Reached}
+use Rattle.call.specs.Call.{Memory, Reached}
 use Rattle.flow.proofs.Cutting.{ends-before}
 
 pub record Sized (old new : Memory) : Type 0 where

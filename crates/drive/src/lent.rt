@@ -1,16 +1,16 @@
 // Calls with a buffer lent: the buffer before, the answer, and the buffer after.
 ghost use Prim.Native.Nat.{_≤_};
-ghost use Rattle.session.specs.Call.{memoryOf, Reached};
+ghost use Rattle.call.specs.Call.{memoryOf, Reached};
 use crate::show::say;
 use crate::show::say_number;
 use crate::show::show;
 use crate::show::show_answer;
+use call::hear;
+use call::sets_left;
+use call::take;
 use command::Answer;
 use line::read::read_line;
 use normal::write::write_line;
-use session::call::hear;
-use session::call::sets_left;
-use session::call::take;
 
 // What a line of the script asks for.
 pub enum Call {

@@ -1,7 +1,7 @@
 // Printing: bytes as a person reads them, and answers.
 use command::Answer;
+use command::refusals::number_of;
 use libc::STDOUT_FILENO;
-use session::refusal::number_of;
 
 // A text as it is.
 pub fn say(text: &[u8]) {

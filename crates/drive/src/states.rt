@@ -1,6 +1,6 @@
 // A script, line by line: the way of forms through the states, with a take in each.
 ghost use Prim.Native.Nat.{_≤_};
-ghost use Rattle.session.specs.Call.{memoryOf, Reached};
+ghost use Rattle.call.specs.Call.{memoryOf, Reached};
 use crate::lent::Call;
 use crate::lent::lent;
 use crate::show::say;

@@ -36,6 +36,12 @@ unfolding emit setsSay settled takes afterTakes joined
 emit-settles s [] = rw append-nil
 emit-settles s (b ∷ input) = refl
 
+-- and all of them are taken
+after-settles : (s : Standing) (input : List ℕ) → after s input ≡ after (settled s) input
+unfolding after settled afterTakes
+after-settles s [] = refl
+after-settles s (b ∷ input) = refl
+
 -- a piece of input behind another adds what it adds behind what that one adds
 pub emit-append : (s : Standing) (x y : List ℕ) → emit s (x ++ y) ≡ joined (emit s x) (emit (after s x) y)
 unfolding after emit
@@ -86,6 +92,12 @@ emit-takes s input h =
     let (said, left) = sets-take (s .left) (s .bench) h in
     emit-settles s input ∙ rw (emit-settles (taken s) input, said, left, append-assoc)
 
+pub after-takes : (s : Standing) (input : List ℕ) → 0 < s .left → after s input ≡ after (taken s) input
+unfolding settled taken
+after-takes s input h =
+    let left = sets-take (s .left) (s .bench) h .1 in
+    after-settles s input ∙ rw (after-settles (taken s) input, left)
+
 -- what is to be said by what was taken in: a line and the input behind it, or bytes that wait
 abbrev Fed : Bench → ℕ → Piece → Output
 Fed b n (line w rest) = joined (heardSays (resting b w n) w) (emit (heard (resting b w n) w) rest)
@@ -103,6 +115,20 @@ emit-feed b n (c ∷ s) w = go (emit-feed b n s w) (emit-feed b n s (w ++ (c ∷
         (λ y. rw (y, joined-none))
         (λ m. either (isDropped c) (λ d. rw (m, d, joined-none, joined-none) dropped) (λ k. rw (m, k, joined-none, joined-none) added))
 
+-- where the run stands then
+abbrev Then : Bench → ℕ → Piece → Standing
+Then b n (line w rest) = after (heard (resting b w n) w) rest
+Then b n (waits w) = resting b w n
+
+after-feed : (b : Bench) (n : ℕ) (s w : List ℕ) → after (resting b w n) s ≡ Then b n (feed w s)
+unfolding after settled afterTakes step waiting feed if_then_else_
+after-feed b n [] w = refl
+after-feed b n (c ∷ s) w = go (after-feed b n s w) (after-feed b n s (w ++ (c ∷ [])))
+  where
+    go : after (resting b w n) s ≡ Then b n (feed w s) → after (resting b (w ++ (c ∷ [])) n) s ≡ Then b n (feed (w ++ (c ∷ [])) s)
+        → after (resting b w n) (c ∷ s) ≡ Then b n (feed w (c ∷ s))
+    go dropped added = either (eqb c lf) (λ y. rw y) (λ m. either (isDropped c) (λ d. rw (m, d) dropped) (λ k. rw (m, k) added))
+
 -- a standing with no set left, by its parts
 rests : (s : Standing) → s .left ≡ 0 → s ≡ resting (s .bench) (s .wait) (s .lines)
 rests s e = λ i. record { bench = s .bench; wait = s .wait; lines = s .lines; left = e i }
@@ -111,13 +137,24 @@ rests s e = λ i. record { bench = s .bench; wait = s .wait; lines = s .lines; l
 emit-fed : (s : Standing) (input : List ℕ) → s .left ≡ 0 → emit s input ≡ Fed (s .bench) (s .lines) (feed (s .wait) input)
 emit-fed s input e = ap (λ t. emit t input) (rests s e) ∙ emit-feed (s .bench) (s .lines) input (s .wait)
 
+after-fed : (s : Standing) (input : List ℕ) → s .left ≡ 0 → after s input ≡ Then (s .bench) (s .lines) (feed (s .wait) input)
+after-fed s input e = ap (λ t. after t input) (rests s e) ∙ after-feed (s .bench) (s .lines) input (s .wait)
+
 -- a line is heard
 pub emit-hears : (s : Standing) (input w rest : List ℕ) → s .left ≡ 0 → feed (s .wait) input ≡ line w rest
     → emit s input ≡ joined (heardSays s w) (emit (heard s w) rest)
 unfolding heardSays heard
 emit-hears s input w rest e f = emit-fed s input e ∙ rw f
 
+pub after-hears : (s : Standing) (input w rest : List ℕ) → s .left ≡ 0 → feed (s .wait) input ≡ line w rest → after s input ≡ after (heard s w) rest
+unfolding heard
+after-hears s input w rest e f = after-fed s input e ∙ rw f
+
 -- no line ends in the input: it waits for more
 pub emit-waits : (s : Standing) (w x y : List ℕ) → s .left ≡ 0 → feed (s .wait) x ≡ feed w y → emit s x ≡ emit (waiting s w) y
 unfolding waiting
 emit-waits s w x y e f = emit-fed s x e ∙ rw f (sym (emit-fed (waiting s w) y e))
+
+pub after-waits : (s : Standing) (w x y : List ℕ) → s .left ≡ 0 → feed (s .wait) x ≡ feed w y → after s x ≡ after (waiting s w) y
+unfolding waiting
+after-waits s w x y e f = after-fed s x e ∙ rw f (sym (after-fed (waiting s w) y e))

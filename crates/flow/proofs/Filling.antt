@@ -1,34 +1,36 @@
 -- Filling the buffers: each step says what is next to be said, and steps add up.
-use Prim.Native.Nat.{ℕ, _+_, _-_, _^_, _≤_, _<_}
+use Prim.Native.Nat.{ℕ, suc, _+_, _-_, _^_, _≤_, _<_}
 use mathlib.Core.Path.{_≡_, refl, sym, _∙_, ap}
 use mathlib.Core.Bool.{Bool, true, false, false≢true}
 use mathlib.Core.List.{List, [], _∷_, _++_, append-assoc}
 use native.Mathlib.Omega.{arith}
 use lib.ListN.{length, take, drop, drop-of-length-le}
-use lib.Dec.{ltb}
-use borrow.Author.Tests.{ltb-true, ltb-false}
+use lib.Dec.{eqb, ltb}
+use borrow.Author.Tests.{eqb-true, ltb-true, ltb-false}
 use Rattle.paper.specs.Form.{Form}
 use Rattle.paper.specs.Line.{lf, kept}
 use Rattle.paper.specs.Bench as P
 use Rattle.paper.specs.State.{Led, Sound, hearing, taking}
 use Rattle.paper.specs.Program.{enough, toTake}
+use Rattle.paper.proofs.Law.{by-test}
 use Rattle.paper.proofs.Test.{either}
+use Rattle.paper.proofs.SetOf.{take-gives}
 use Rattle.paper.proofs.Invariant.{led-sane}
 use Rattle.command.specs.View.{width}
 use Rattle.text.specs.Place.{from}
 use Rattle.text.proofs.Written.{writes-none, writes-then, writes-length}
 use Rattle.session.specs.Outcome.{afterLine}
-use Rattle.session.specs.Call.{Memory, packedBench, Reached, SetsLeft}
-use Rattle.session.specs.Waiting.{Waiting, Comes}
-use Rattle.session.proofs.Leading.{OpensIn, opens-heard, opens-take}
-use Rattle.flow.specs.Said.{HearsAt, TakesAt}
+use Rattle.call.specs.Call.{Memory, packedBench, Reached, SetsLeft}
+use Rattle.listen.specs.Waiting.{Waiting, Comes}
+use Rattle.call.proofs.Leading.{OpensIn, opens-heard, opens-take}
+use Rattle.reports.specs.Said.{HearsAt, TakesAt}
 use Rattle.flow.specs.Feed.{feed, line}
 use Rattle.flow.specs.declared.fill.Reach.{Reach}
 use Rattle.flow.specs.Emit.{Standing, silence, joined, heard, heardSays, taken, takenSays, waiting}
 use Rattle.flow.specs.Fill.{Desk, Place, placeOf, At, Stands, Inside, Room, Ending, Gathered, lineBy, Leads, Puts, Goes, weight, Steps, Lacks, outFull, errFull, Fills}
 use Rattle.flow.proofs.Cutting.{Line, part-ends, kept-none, rest-inside, rest-part, feed-inside, feed-line}
 use Rattle.flow.proofs.Gathering.{clean-more, heard-as}
-use Rattle.flow.proofs.Emitting.{joined-none, joined-assoc, emit-takes, emit-hears, emit-waits}
+use Rattle.flow.proofs.Emitting.{joined-none, joined-assoc, emit-takes, emit-hears, emit-waits, after-takes, after-hears, after-waits}
 
 -- the bench of a run that stands somewhere is one that calls lead to
 abbrev pub bench-at : {d : Desk} {s : Standing} → At d s → Reached (d .memory)
@@ -40,16 +42,17 @@ line-at {d} {s} a = record { line = s .wait; waits = a .waits }
 
 -- nothing said
 pub leads-none : {d : Desk} {s : Standing} (input : List ℕ) → At d s → Leads s input d input
-leads-none {d} {s} input a = record { here = s; at = a; said = silence; says = λ more. sym (joined-none _) }
+leads-none {d} {s} input a = record { here = s; at = a; said = silence; says = λ more. sym (joined-none _); stays = λ more. refl }
 
 -- one thing said behind another
-pub leads-then : {s : Standing} {x y z : List ℕ} {d e : Desk} (l : Leads s x d y) → Leads (l .here) y e z → Leads s x e z
+unfoldable pub leads-then : {s : Standing} {x y z : List ℕ} {d e : Desk} (l : Leads s x d y) → Leads (l .here) y e z → Leads s x e z
 leads-then l m =
     record {
       here = m .here;
       at = m .at;
       said = joined (l .said) (m .said);
       says = λ more. l .says more ∙ ap (joined (l .said)) (m .says more) ∙ sym (joined-assoc (l .said) (m .said) _);
+      stays = λ more. l .stays more ∙ m .stays more;
     }
 
 -- `P` asks for at most 65,535 sets, so no more are ever due
@@ -65,6 +68,19 @@ due-few forms (P.printing ls answers n c i) h = omega (arith, h .2 .counted)
 
 left-few : (memory : Memory) (n : ℕ) → Reached memory → SetsLeft memory n → n ≤ 65535
 left-few memory n r tells = let b = r .paper in omega (arith, tells .is r, due-few (b .forms) (b .session) (led-sane width (r .led) .session))
+
+-- behind a set one less is left to be taken
+due-less : (b : P.Bench) (s : P.Session) → Led width b → b .session ≡ s → toTake (P.takeSet enough b .next .session) ≡ toTake s - 1
+unfolding toTake P.takeSet P.taken P.outcome P.afterSet enough
+due-less b P.idle led e = rw e
+due-less b (P.collecting name ls) led e = rw e
+due-less b P.spoiled led e = rw e
+due-less b (P.opened ls) led e = rw e
+due-less b (P.answering ls answers) led e = rw e
+due-less b (P.ready ls answers) led e = rw e
+due-less b (P.printing ls answers n c i) led e =
+    ap (λ o. toTake (o .next .session)) (take-gives width enough b ls answers n c i (omega arith) (omega arith) (led-sane width led) e)
+    ∙ by-test (λ t. toTake t ≡ n - i - 1) (eqb (suc i) n) _ _ (λ y. omega (arith, eqb-true (suc i) n y)) (λ m. omega arith)
 
 -- the places of a run lie in the input and in the buffers, and the lines to come can be counted
 pub record Within (p : Place) (input out err : List ℕ) : Type 0 where
@@ -84,11 +100,11 @@ room-within r memory waiting input out err i =
 module _ {input : List ℕ} {p : Place} {out₀ err₀ : List ℕ} where
   -- a run came further, by what it put
   goes-by : {q : Place} {out err : List ℕ} → Stands (p .desk) → ((s : Standing) → At (p .desk) s → Puts s input p out₀ err₀ q out err)
-      → q .desk .run .left ≤ 65535 → q .next ≤ length input → q .desk .run .lines + (length input - q .next) ≤ p .desk .run .lines + (length input - p .next)
+      → q .desk .run .left ≤ 65535 → p .next ≤ q .next → q .next ≤ length input → q .desk .run .lines + (length input - q .next) ≤ p .desk .run .lines + (length input - p .next)
       → Goes input p out₀ err₀ q out err
-  goes-by t puts sets inside few =
+  goes-by t puts sets onward inside few =
       let l = puts (t .paper) (t .at) .leads in
-      record { stands = record { paper = l .here; at = l .at; few = sets }; puts = puts; inside = inside; few = few }
+      record { stands = record { paper = l .here; at = l .at; few = sets }; puts = puts; onward = onward; inside = inside; few = few }
 
   -- not at all
   goes-none : Stands (p .desk) → Within p input out₀ err₀ → Goes input p out₀ err₀ p out₀ err₀
@@ -98,6 +114,7 @@ module _ {input : List ℕ} {p : Place} {out₀ err₀ : List ℕ} where
         stands = t;
         puts = λ s a.
             record { leads = leads-none (from input (p .next)) a; outs = writes-none out₀ (p .out) (i .outInside); errs = writes-none err₀ (p .err) (i .errInside) };
+        onward = omega arith;
         inside = i .nextInside;
         few = omega arith;
       }
@@ -116,6 +133,7 @@ module _ {input : List ℕ} {p : Place} {out₀ err₀ : List ℕ} where
               outs = writes-then _ _ _ _ _ _ _ _ (x .outs) (y .outs);
               errs = writes-then _ _ _ _ _ _ _ _ (x .errs) (y .errs);
             };
+        onward = omega (arith, c .onward, d .onward);
         inside = d .inside;
         few = omega (arith, c .few, d .few);
       }
@@ -157,14 +175,16 @@ module _ {input : List ℕ} {p : Place} {out₀ err₀ : List ℕ} (t : Stands (
                   clean = a .clean;
                   counts = a .counts;
                   leaves = ap (λ n. n - 1) (a .leaves);
+                  due = ap (λ n. n - 1) (a .due) ∙ sym (due-less (s .bench) (s .bench .session) (a .led) refl);
                 };
                 said = takenSays s;
                 says = λ more. emit-takes s (from input (p .next) ++ more) (omega (arith, a .leaves));
+                stays = λ more. after-takes s (from input (p .next) ++ more) (omega (arith, a .leaves));
               };
               outs = takes .outs (bench-at a);
               errs = writes-none err₀ (p .err) (i .errInside);
             })
-            (omega (arith, t .few)) (i .nextInside) (omega arith);
+            (omega (arith, t .few)) (omega arith) (i .nextInside) (omega arith);
         ends = λ e. absurd (false≢true e);
         moves = λ e. omega arith;
       }
@@ -186,6 +206,9 @@ module _ {input : List ℕ} {p : Place} {out₀ err₀ : List ℕ} (t : Stands (
     puts-waits new n ending comes s a =
         let empty : from input (length input) ≡ [] = drop-of-length-le input {i = length input} (omega arith) in
         let w : List ℕ = s .wait ++ kept (from input (p .next)) in
+        let rests : s .left ≡ 0 = sym (a .leaves) ∙ none in
+        let fed : (more : List ℕ) → feed (s .wait) (from input (p .next) ++ more) ≡ feed w more =
+        λ more. feed-inside (s .wait) (from input (p .next)) more (rest-inside input (p .next) ending) in
         record {
           leads = record {
             here = waiting s w;
@@ -198,11 +221,11 @@ module _ {input : List ℕ} {p : Place} {out₀ err₀ : List ℕ} (t : Stands (
               clean = clean-more (s .wait) (from input (p .next)) (a .clean);
               counts = a .counts;
               leaves = a .leaves;
+              due = a .due;
             };
             said = silence;
-            says = λ more.
-                emit-waits s w (from input (p .next) ++ more) more (sym (a .leaves) ∙ none) (feed-inside (s .wait) (from input (p .next)) more (rest-inside input (p .next) ending))
-                ∙ rw (joined-none, empty);
+            says = λ more. emit-waits s w (from input (p .next) ++ more) more rests (fed more) ∙ rw (joined-none, empty);
+            stays = λ more. after-waits s w (from input (p .next) ++ more) more rests (fed more) ∙ rw empty;
           };
           outs = writes-none out₀ (p .out) (i .outInside);
           errs = writes-none err₀ (p .err) (i .errInside);
@@ -213,7 +236,7 @@ module _ {input : List ℕ} {p : Place} {out₀ err₀ : List ℕ} (t : Stands (
     unfolding from
     steps-waits new n ending comes =
         record {
-          goes = goes-by t (puts-waits new n ending (rw (rest-part input (p .next)) at comes)) (t .few) (omega arith) (omega arith);
+          goes = goes-by t (puts-waits new n ending (rw (rest-part input (p .next)) at comes)) (t .few) (i .nextInside) (omega arith) (omega arith);
           ends = λ u. record { whole = refl; none = none };
           moves = λ u. absurd (false≢true (sym u));
         }
@@ -260,9 +283,11 @@ module _ {input : List ℕ} {p : Place} {out₀ err₀ : List ℕ} (t : Stands (
                 clean = kept-none;
                 counts = counts;
                 leaves = tells .is (record { paper = P.hear width enough (s .bench) w .next; number = number; led = led; opens = opens; is = is });
+                due = refl;
               };
               said = heardSays s w;
               says = λ more. emit-hears s (from input (p .next) ++ more) w (from input (end + 1) ++ more) (sym (a .leaves) ∙ none) (fed more);
+              stays = λ more. after-hears s (from input (p .next) ++ more) w (from input (end + 1) ++ more) (sym (a .leaves) ∙ none) (fed more);
             };
             outs = rw same at (hears .outs (bench-at a));
             errs = rw (same, counts) at (hears .errs (bench-at a));
@@ -273,7 +298,7 @@ module _ {input : List ℕ} {p : Place} {out₀ err₀ : List ℕ} (t : Stands (
       steps-hears =
           let few = left-few next left (hears .reached) tells in
           record {
-            goes = goes-by t puts-hears few (omega (arith, before)) (omega (arith, before, lies .before));
+            goes = goes-by t puts-hears few (omega (arith, lies .before)) (omega (arith, before)) (omega (arith, before, lies .before));
             ends = λ u. absurd (false≢true u);
             moves = λ u. omega (arith, before, lies .before, few);
           }

@@ -16,7 +16,7 @@ use Rattle.paper.proofs.Test.{either}
 use Rattle.paper.proofs.Dropped.{kept-stays, stays-kept}
 use Rattle.paper.proofs.Long.{hear-first}
 use Rattle.command.specs.View.{width}
-use Rattle.session.specs.Waiting.{Waits, Waiting, Comes}
+use Rattle.listen.specs.Waiting.{Waits, Waiting, Comes}
 use Rattle.flow.specs.Fill.{Gathered, lineBy}
 use Rattle.flow.proofs.Cutting.{kept-append}
 
@@ -57,13 +57,13 @@ heard-as b w old len rest new n h e g =
 
 -- `gather`: nothing waits
 pub gathers-none : (old : List ℕ) (len : ℕ) (rest : List ℕ) → len ≡ 0 → Gathered old len rest old 0
-gathers-none old len rest e = record { inside = omega arith; size = refl; more = λ n. absurd (n e) }
+gathers-none old len rest e = record { inside = omega arith; size = refl; none = λ z. (refl, refl); more = λ n. absurd (n e) }
 
 -- or more of a line comes
-pub gathers-some : (old : List ℕ) (len : ℕ) (rest new : List ℕ) (n : ℕ) → Waiting old len → Comes old len rest new n → Gathered old len rest new n
-gathers-some old len rest new n w c =
+pub gathers-some : (old : List ℕ) (len : ℕ) (rest new : List ℕ) (n : ℕ) → (len ≡ 0 → ⊥) → Waiting old len → Comes old len rest new n → Gathered old len rest new n
+gathers-some old len rest new n m w c =
     let h = c .comes (w .line) (w .waits) in
-    record { inside = omega (arith, h .counts, h .room, length-take 257 (w .line ++ kept rest)); size = h .room ∙ sym (w .waits .room); more = λ m. c }
+    record { inside = omega (arith, h .counts, h .room, length-take 257 (w .line ++ kept rest)); size = h .room ∙ sym (w .waits .room); none = λ z. absurd (m z); more = λ k. c }
 
 -- `line_of`: where nothing waits it is the input's
 pub line-rest : (len : ℕ) (rest gathered : List ℕ) → len ≡ 0 → rest ≡ lineBy len rest gathered

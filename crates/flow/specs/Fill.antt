@@ -1,25 +1,22 @@
--- What the loops promise. `step` and `fill`: which bytes stand behind those that wait, where the run stands then, and why it stopped.
--- `pass` and `obey`, which write: what was to be said and where the run stands, and nothing of the streams that it went to.
+-- What `step` and `fill` promise: which bytes stand behind those that wait, where the run stands then, and why it stopped.
 use Prim.Native.Nat.{ℕ, _+_, _-_, _*_, _^_, _≤_, _<_}
 use mathlib.Core.Path.{_≡_}
 use mathlib.Core.Bool.{Bool, true, false}
 use mathlib.Core.List.{List, _++_}
-use lib.ListN.{length, take}
+use lib.ListN.{length}
 use lib.Dec.{eqb}
 use Rattle.paper.specs.Byte.{if_then_else_}
 use Rattle.paper.specs.Line.{kept}
 use Rattle.paper.specs.State.{Led}
-use Rattle.paper.specs.Program.{Output}
+use Rattle.paper.specs.Program.{Output, toTake}
 use Rattle.command.specs.View.{width}
 use Rattle.text.specs.Place.{from}
 use Rattle.text.specs.Write.{Writes}
 use Rattle.form.specs.Walk.{firstLine}
-use Rattle.streams.specs.declared.Read.{Read}
-use Rattle.streams.specs.declared.Read.the-variants.{Bytes, End, Failed}
 use Rattle.session.specs.Memory.{Opens}
-use Rattle.session.specs.Call.{Memory, packedBench, Begins}
-use Rattle.session.specs.Waiting.{Waits, Comes}
-use Rattle.flow.specs.Emit.{Standing, joined, emit}
+use Rattle.call.specs.Call.{Memory, packedBench}
+use Rattle.listen.specs.Waiting.{Waits, Comes}
+use Rattle.flow.specs.Emit.{Standing, joined, after, emit}
 use Rattle.flow.specs.declared.fill.Run.{Run}
 use Rattle.flow.specs.declared.fill.Reach.{Reach}
 
@@ -42,7 +39,12 @@ pub record Place : Type 0 where
 abbrev pub placeOf : Reach → Memory → List ℕ → Place
 placeOf r memory waiting = record { desk = deskOf (r .run) memory waiting; next = r .next; out = r .out; err = r .err }
 
--- the memory of a run that stands there, with a bench that calls lead to; no dropped byte waits
+-- and at a place in the input, with no byte in the buffers
+abbrev pub placeIn : Desk → ℕ → Place
+placeIn d next = record { desk = d; next = next; out = 0; err = 0 }
+
+-- the memory of a run that stands there, with a bench that calls lead to; no dropped byte waits, and the sets that are still to be taken
+-- are those that the bench has left
 pub record At (d : Desk) (s : Standing) : Type 0 where
   pub number : ℕ
   pub led : Led width (s .bench)
@@ -52,17 +54,13 @@ pub record At (d : Desk) (s : Standing) : Type 0 where
   pub clean : kept (s .wait) ≡ s .wait
   pub counts : d .run .lines ≡ s .lines
   pub leaves : d .run .left ≡ s .left
+  pub due : s .left ≡ toTake (s .bench .session)
 
 -- a run with a bench that calls lead to, some waiting bytes, and fewer than 65,536 sets still to be taken
 pub record Stands (d : Desk) : Type 0 where
   pub paper : Standing
   pub at : At d paper
   pub few : d .run .left ≤ 65535
-
--- and that can count so many lines more
-pub record StandsAt (d : Desk) (lines : ℕ) : Type 0 where
-  pub stands : Stands d
-  pub countable : d .run .lines + lines < 2 ^ 64
 
 -- the places lie in the input and in the buffers, and the lines to come can be counted
 pub record Inside (r : Reach) (input out err : List ℕ) : Type 0 where
@@ -82,10 +80,11 @@ pub record Room (r : Reach) (input out err : List ℕ) : Type 0 where
 abbrev pub Ending : List ℕ → ℕ → ℕ → Type 0
 Ending input next end = end ≡ next + length (firstLine (from input next))
 
--- `gather`: a line of which nothing waits stays in the input, and else its rest waits too
+-- `gather`: a line of which nothing waits stays in the input, and memory as it is; else its rest waits too
 pub record Gathered (old : List ℕ) (len : ℕ) (rest new : List ℕ) (n : ℕ) : Type 0 where
   pub inside : n ≤ length new
   pub size : length new ≡ length old
+  pub none : len ≡ 0 → (new ≡ old) × (n ≡ 0)
   pub more : (len ≡ 0 → ⊥) → Comes old len rest new n
 
 -- the bytes of a line: in the input, or gathered
@@ -93,12 +92,13 @@ unfoldable pub lineBy : ℕ → List ℕ → List ℕ → List ℕ
 lineBy len rest gathered = if eqb len 0 then rest else gathered
 
 -- from a standing, with input to come, to a run with input to come: what was said. Whatever follows, all that was to be said
--- is this and what is still to be said
+-- is this and what is still to be said, and the run comes to stand where it was to stand
 pub record Leads (s : Standing) (input : List ℕ) (d : Desk) (rest : List ℕ) : Type 0 where
   pub here : Standing
   pub at : At d here
   pub said : Output
   pub says : (more : List ℕ) → emit s (input ++ more) ≡ joined said (emit here (rest ++ more))
+  pub stays : (more : List ℕ) → after s (input ++ more) ≡ after here (rest ++ more)
 
 -- and its bytes stand behind those that wait
 pub record Puts (s : Standing) (input : List ℕ) (p : Place) (out₀ err₀ : List ℕ) (q : Place) (out err : List ℕ) : Type 0 where
@@ -110,6 +110,7 @@ pub record Puts (s : Standing) (input : List ℕ) (p : Place) (out₀ err₀ : L
 pub record Goes (input : List ℕ) (p : Place) (out₀ err₀ : List ℕ) (q : Place) (out err : List ℕ) : Type 0 where
   pub stands : Stands (q .desk)
   pub puts : (s : Standing) → At (p .desk) s → Puts s input p out₀ err₀ q out err
+  pub onward : p .next ≤ q .next
   pub inside : q .next ≤ length input
   pub few : q .desk .run .lines + (length input - q .next) ≤ p .desk .run .lines + (length input - p .next)
 
@@ -139,28 +140,3 @@ pub record Fills (input : List ℕ) (p : Place) (out₀ err₀ : List ℕ) (q : 
   pub ends : used ≡ true → UsedUp (length input) (q .next) (q .desk .run .left)
   pub full : used ≡ false → Lacks q out₀ err₀
   pub moves : used ≡ false → p .out + 10291 ≤ length out₀ → p .err + 64 ≤ length err₀ → weight (length input) q < weight (length input) p
-
--- `pass`: a piece of input, up to a place, and to its end where the run goes on
-pub record Passes (d : Desk) (input : List ℕ) (e : Desk) (next : ℕ) (going : Bool) : Type 0 where
-  pub stands : Stands e
-  pub leads : (s : Standing) → At d s → Leads s input e (from input next)
-  pub few : e .run .lines ≤ d .run .lines + length input
-  pub ends : going ≡ true → UsedUp (length input) next (e .run .left)
-
--- the bytes that a read brought
-unfoldable pub bytesOf : Read → ℕ
-bytesOf (Bytes n) = n
-bytesOf End = 0
-bytesOf (Failed error) = 0
-
--- `obey`: they are passed on, and the run ends where there are none
-pub record Obeys (d : Desk) (read : Read) (input : List ℕ) (e : Desk) (next : ℕ) (going : Bool) : Type 0 where
-  pub passes : Passes d (take (bytesOf read) input) e next going
-  pub stops : bytesOf read ≡ 0 → going ≡ false
-
--- a bench that has just begun, and buffers: one that a read fills, and two with room for what a step can say
-pub record Starting (memory : Memory) (input out err : List ℕ) : Type 0 where
-  pub begins : Begins memory
-  pub few : length input ≤ 65536
-  pub outRoom : 10291 ≤ length out
-  pub errRoom : 64 ≤ length err

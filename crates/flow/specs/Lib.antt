@@ -1,5 +1,3 @@
-pub mod Said
 pub mod Emit
 pub mod Feed
 pub mod Fill
-pub mod Chain

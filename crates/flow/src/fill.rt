@@ -2,16 +2,16 @@
 ghost use Prim.Native.Nat.{_+_, _-_, _^_, _<_, _≤_};
 ghost use mathlib.Core.Path.{_≡_};
 ghost use lib.ListN.{length};
-ghost use Rattle.session.specs.Call.{memoryOf};
-ghost use Rattle.session.specs.Waiting.{Waiting};
+ghost use Rattle.call.specs.Call.{memoryOf};
+ghost use Rattle.listen.specs.Waiting.{Waiting};
 ghost use Rattle.flow.specs.Fill.{deskOf, placeOf, Stands, Inside, Room, Ending, Gathered, lineBy, Steps, Fills};
-use crate::call::REFUSAL_ROOM;
-use crate::call::REPLY_ROOM;
-use crate::call::hear_line;
-use crate::call::take_set;
+use call::sets_left;
 use form::walk::line_end;
-use session::call::sets_left;
-use session::wait::put_kept;
+use listen::wait::put_kept;
+use reports::calls::REFUSAL_ROOM;
+use reports::calls::REPLY_ROOM;
+use reports::calls::hear_line;
+use reports::calls::take_set;
 
 // Where a run stands beside its bench: the bytes that wait for the end of their line, the lines that have come, and the sets that are
 // still to be taken.

@@ -1,5 +1,2 @@
-// The program over lent memory: input to output.
-pub mod call;
+// Input to output, over lent memory.
 pub mod fill;
-pub mod report;
-pub mod run;

@@ -1,7 +1,7 @@
 -- The check of a form line by line: the lines so far keep the rules, so that those from a place on decide about the form.
 use Prim.Native.Nat.{ℕ, suc, _+_, _≤_, _<_}
 use mathlib.Core.Path.{_≡_, refl, sym, _∙_, ap}
-use mathlib.Core.Bool.{true, false}
+use mathlib.Core.Bool.{Bool, true, false}
 use mathlib.Core.List.{List, [], _∷_, _++_}
 use mathlib.Core.Option.{none, some}
 use native.Mathlib.Omega.{arith}
@@ -10,20 +10,16 @@ use lib.ListN.{length}
 use lib.Dec.{ltb}
 use borrow.Author.Tests.{lt-ltb, le-ltb}
 use Rattle.paper.specs.Command as P
-use Rattle.paper.specs.Command.{all, inRange}
+use Rattle.paper.specs.Command.{all}
 use Rattle.paper.specs.Form.{textOf, asked, rules, firstBroken, unsoundAt}
-use Rattle.paper.specs.Read.{command}
-use Rattle.paper.specs.Write.{lineText}
 use Rattle.paper.specs.State.{allIn}
 use Rattle.paper.proofs.Law.{if-true, if-false}
 use Rattle.text.specs.Place.{from}
-use Rattle.command.specs.View.{width, viewOf, Stand}
-use Rattle.command.specs.declared.Command.{Command}
-use Rattle.line.specs.Given.{IsRead}
+use Rattle.command.specs.View.{width}
 use Rattle.form.specs.Walk.{firstLine, partOf}
 use Rattle.form.specs.Sound.{Agrees, Judges, lineNumber}
-use Rattle.form.specs.declared.check.Checked.{Checked}
-use Rattle.form.proofs.Lines.{end-inside, Turn, line-turn, line-reads, lines-end}
+use Rattle.form.proofs.Lines.{end-inside, Turn, line-turn, lines-end}
+use Rattle.form.proofs.Judged.{Checks}
 
 -- a line that keeps the rules leaves the rest to the lines below it
 broken-below : (k : ℕ) (above : List P.Define) (l : P.FormLine) (ls : List P.FormLine) → all (rules k above l) ≡ true → firstBroken k above (l ∷ ls) ≡ firstBroken (k + 1) (above ++ asked (l ∷ [])) ls
@@ -47,34 +43,29 @@ pub record Below (text : List ℕ) (ls : List P.FormLine) (lens : List ℕ) (at 
 -- so many lines before a place keep the rules
 pub record Checking (text lens : List ℕ) (at k : ℕ) : Type 0 where
   pub few : k ≤ at
+  pub whole : length lens ≡ 26
   pub below : (ls : List P.FormLine) → text ≡ textOf ls → allIn width ls ≡ true → Below text ls lens at k
-
--- what the check of a line promises
-abbrev pub Checks : ℕ → List ℕ → Command → Checked → Type 0
-Checks k lens c r =
-    (s : List ℕ) (l : P.FormLine) (above : List P.Define) → viewOf s c ≡ command (P.keep l) → Stand s c → inRange width (P.keep l) ≡ true → Agrees lens above → Judges k above l r
 
 -- the check begins
 pub check-begins : (text lens : List ℕ) → Agrees lens [] → Checking text lens 0 0
 unfolding from unsoundAt
 check-begins text lens a = record {
   few = omega arith;
+  whole = a .whole;
   below = λ ls e i. record { left = ls; above = []; here = e; inside = i; agrees = a; same = refl };
 }
 
-module _ (text lens : List ℕ) (at k end : ℕ) (c : Command) (r : Checked) (h : Checking text lens at k) (p : at < length text)
-    (e : end ≡ at + length (firstLine (from text at))) (read : IsRead (partOf text at end) c) (checks : Checks k lens c r) where
+module _ (text lens : List ℕ) (at k end : ℕ) (r : Bool) (new : List ℕ) (h : Checking text lens at k) (p : at < length text)
+    (e : end ≡ at + length (firstLine (from text at))) (checks : Checks k (partOf text at end) lens r new) where
   -- the line is judged below the definitions above it
-  judged : (above : List P.Define) → Agrees lens above → {rest : List P.FormLine} (t : Turn text at rest end) → Judges k above (t .line) r
-  judged above a t =
-      let d = line-reads (partOf text at end) (t .line) c (t .stands) (t .range) read in
-      checks (lineText (t .line)) (t .line) above (d .view) (d .stand) (t .range) a
+  judged : (above : List P.Define) → Agrees lens above → {rest : List P.FormLine} (t : Turn text at rest end) → Judges k above (t .line) r new
+  judged above a t = checks (t .line) above (t .stands) (t .range) a
 
   -- a line keeps the rules
-  pub check-turns : r .sound ≡ true → Checking text (r .lens) (end + 1) (k + 1)
-  check-turns y = record { few = omega (arith, h .few, end-inside text at end p e .begins); below = λ ls q i. goes ls (h .below ls q i) }
+  pub check-turns : length new ≡ length lens → r ≡ true → Checking text new (end + 1) (k + 1)
+  check-turns same y = record { few = omega (arith, h .few, end-inside text at end p e .begins); whole = same ∙ h .whole; below = λ ls q i. goes ls (h .below ls q i) }
     where
-      goes : (ls : List P.FormLine) → Below text ls lens at k → Below text ls (r .lens) (end + 1) (k + 1)
+      goes : (ls : List P.FormLine) → Below text ls lens at k → Below text ls new (end + 1) (k + 1)
       goes ls b =
           let t = line-turn text at (b .left) end (b .here) (b .inside) p e in
           let j = judged (b .above) (b .agrees) t in
@@ -84,17 +75,17 @@ module _ (text lens : List ℕ) (at k end : ℕ) (c : Command) (r : Checked) (h 
             here = t .after;
             inside = t .below;
             agrees = j .notes y;
-            same = b .same ∙ ap (firstBroken k (b .above)) (t .is) ∙ broken-below k (b .above) (t .line) (t .more) (sym (j .sound) ∙ y);
+            same = b .same ∙ ap (firstBroken k (b .above)) (t .is) ∙ broken-below k (b .above) (t .line) (t .more) (sym (j .judged) ∙ y);
           }
 
   -- a line breaks one
-  pub check-breaks : r .sound ≡ false → (ls : List P.FormLine) → text ≡ textOf ls → allIn width ls ≡ true → k + 1 ≡ lineNumber (unsoundAt ls)
+  pub check-breaks : r ≡ false → (ls : List P.FormLine) → text ≡ textOf ls → allIn width ls ≡ true → k + 1 ≡ lineNumber (unsoundAt ls)
   unfolding lineNumber
   check-breaks n ls q i =
       let b = h .below ls q i in
       let t = line-turn text at (b .left) end (b .here) (b .inside) p e in
       let j = judged (b .above) (b .agrees) t in
-      sym (ap lineNumber (b .same ∙ ap (firstBroken k (b .above)) (t .is) ∙ broken-here k (b .above) (t .line) (t .more) (sym (j .sound) ∙ n)))
+      sym (ap lineNumber (b .same ∙ ap (firstBroken k (b .above)) (t .is) ∙ broken-here k (b .above) (t .line) (t .more) (sym (j .judged) ∙ n)))
 
 -- no line is left, and one of the first two is missing
 pub check-short : (text lens : List ℕ) (at k : ℕ) → Checking text lens at k → length text ≤ at → k < 2 → (ls : List P.FormLine) → text ≡ textOf ls → allIn width ls ≡ true → k + 1 ≡ lineNumber (unsoundAt ls)

@@ -137,7 +137,7 @@ counter-told s r t n len l by prompt e i = t .tells _ _ (ap (λ x. counterParts 
 pub ruleset defining = (variable-told, counter-told, tells-number, tells-no-number, tells-step, tells-no-step, tells-variable, tells-counter)
 
 -- the letter of a line of a form
-unfoldable letterOf : P.FormLine → ℕ
+unfoldable pub letterOf : P.FormLine → ℕ
 letterOf (P.draw (P.size p₁ p₂)) = code "Q"
 letterOf (P.draw (P.direction d)) = code "Z"
 letterOf (P.draw (P.put s content)) = code "A"
@@ -160,7 +160,7 @@ letter-first (P.define (P.counting n len l by prompt)) = refl
 letter-first (P.define (P.varying n len l prompt)) = refl
 
 -- so the byte that was read there is the letter
-first-byte : (s : List ℕ) (b : ℕ) (l : P.FormLine) → b ≡ byteAt s 0 → s ≡ lineText l → b ≡ letterOf l
+pub first-byte : (s : List ℕ) (b : ℕ) (l : P.FormLine) → b ≡ byteAt s 0 → s ≡ lineText l → b ≡ letterOf l
 first-byte s b l e q = e ∙ ap (λ x. byteAt x 0) q ∙ letter-first l
 
 -- a line that draws begins with neither letter of a definition

@@ -1,4 +1,4 @@
--- What a line does to a plan: a value at its end ends a piece, and a definition lies between two pieces.
+-- What a line shows at its end, and what it does to a plan: a value ends a piece, and a definition lies between two pieces.
 use Prim.Native.Nat.{ℕ, _+_, _-_, _*_, _≤_, _<_, _^_}
 use mathlib.Core.Path.{_≡_, refl, sym, _∙_, ap}
 use mathlib.Core.Bool.{Bool, true, false}
@@ -6,18 +6,41 @@ use mathlib.Core.List.{List, [], _∷_, _++_, append-nil}
 use native.Mathlib.Omega.{arith}
 use lib.ListN.{length}
 use Rattle.paper.specs.Command as P
+use Rattle.paper.specs.Command.{drawRanges, contentRanges, settingRanges, valueRange, allOf}
 use Rattle.paper.specs.Form.{valueOf, lenOf}
+use Rattle.paper.specs.Write.{lineText}
+use Rattle.paper.proofs.Test.{Passed, held, held-right}
+use Rattle.command.specs.View.{width}
 use Rattle.command.specs.declared.Step.{Step}
 use Rattle.command.specs.declared.Step.the-variants.{Up, Down}
 use Rattle.form.specs.Asked.{stepIn, defineOf}
-use Rattle.form.specs.Plan.{numberOf, kindOf, stepSize, Shows, nothing, value, givesWay, Piece, ifValue, opensAt, behindIn}
+use Rattle.form.specs.Plan.{numberOf, kindOf, stepSize, Shows, nothing, value, showsOf, givesWay, Piece, ifValue, opensAt, behindIn}
 use Rattle.form.specs.Ending.{valueEnding, endingOf, tailOf, numberIn}
 use Rattle.form.specs.Noting.{Holds, PieceRoom, NoteRoom, DrawnRoom, GapRoom, PieceNoted, OpenNoted, DefineNoted, Told, Noted, DrawnNoted, GapNoted}
 use Rattle.form.specs.declared.asked.Define.{Define}
 use Rattle.form.specs.declared.asked.Define.the-variants.{Counter, Variable}
-use Rattle.form.specs.declared.plan.Ending.{Ending}
-use Rattle.form.specs.declared.plan.Ending.the-variants.{Whole, Value}
+use Rattle.form.specs.declared.ending.Ending.{Ending}
+use Rattle.form.specs.declared.ending.Ending.the-variants.{Whole, Value}
 use Rattle.form.proofs.Memory.{piece-room, define-room}
+
+-- what the ending of a line is told to be
+abbrev pub Ends : List ℕ → Ending → Type 0
+Ends s ending = (d : P.Draw) → s ≡ lineText (P.draw d) → allOf (drawRanges width d) ≡ true → ending ≡ endingOf (showsOf d)
+
+-- the value of a line in range
+abbrev pub Shown : Shows → Type 0
+Shown nothing = Unit
+Shown (value alone v) = Passed (valueRange v)
+
+pub shown-range : (d : P.Draw) → allOf (drawRanges width d) ≡ true → Shown (showsOf d)
+unfolding showsOf drawRanges contentRanges
+shown-range (P.size p₁ p₂) h = tt
+shown-range (P.direction d) h = tt
+shown-range (P.put s (P.text t)) h = tt
+shown-range (P.put s (P.shown v)) h = held-right (settingRanges width s) _ (held _ h) .0
+shown-range (P.put s (P.joined t v)) h = held-right (settingRanges width s) _ (held _ h) .1 .0
+shown-range (P.bar pen x y w t) h = tt
+shown-range (P.frame x₁ y₁ t x₂ y₂) h = tt
 
 -- what goes behind a piece, as a number
 pub opens-behind : (n : ℕ) (opens : Bool) → opens ≡ true → (v : P.Value) → n ≡ numberOf v → 2 + n * 2 ≡ behindIn (value opens v)
@@ -68,24 +91,14 @@ variable-small define n len t e = go (t .what) (sym e ∙ t .is) (t .small)
 pub variable-fits : (plan : List ℕ) (define : Define) (n len : ℕ) → NoteRoom plan define → define ≡ Variable n len → 10 + n < 2 ^ 64
 variable-fits plan define n len r e = let h = variable-small define n len (r .told) e in omega arith
 
--- a line that ends in no value leaves the piece open
-pub whole-drawn : (old : List ℕ) (ending : Ending) (start end : ℕ) → ending ≡ Whole → DrawnNoted old ending start end old start
-unfolding endingOf valueEnding ifValue opensAt
-whole-drawn old ending start end e = record { noted = λ ds ps s h r q t. keeps ds ps s h (sym e ∙ q); opens = λ s q. same s (sym e ∙ q) }
-  where
-    keeps : (ds : List P.Define) (ps : List Piece) (s : Shows) → Holds ds ps old → Whole ≡ endingOf s → Holds ds (ps ++ ifValue s (record { start = start; end = end - length (givesWay s); behind = s }) []) old
-    keeps ds ps nothing h q = rw append-nil h
-    keeps ds ps (value true (P.counter n)) h q = let z : _≡_ {A = ℕ} 0 1 = cc in absurd (omega arith)
-    keeps ds ps (value false (P.counter n)) h q = let z : _≡_ {A = ℕ} 0 1 = cc in absurd (omega arith)
-    keeps ds ps (value true (P.variable n)) h q = let z : _≡_ {A = ℕ} 0 1 = cc in absurd (omega arith)
-    keeps ds ps (value false (P.variable n)) h q = let z : _≡_ {A = ℕ} 0 1 = cc in absurd (omega arith)
-
-    same : (s : Shows) → Whole ≡ endingOf s → start ≡ opensAt s start end
-    same nothing q = refl
-    same (value true (P.counter n)) q = let z : _≡_ {A = ℕ} 0 1 = cc in absurd (omega arith)
-    same (value false (P.counter n)) q = let z : _≡_ {A = ℕ} 0 1 = cc in absurd (omega arith)
-    same (value true (P.variable n)) q = let z : _≡_ {A = ℕ} 0 1 = cc in absurd (omega arith)
-    same (value false (P.variable n)) q = let z : _≡_ {A = ℕ} 0 1 = cc in absurd (omega arith)
+-- the ending of a line that ends in no value
+pub whole-shows : (s : Shows) → Whole ≡ endingOf s → s ≡ nothing
+unfolding endingOf valueEnding
+whole-shows nothing q = refl
+whole-shows (value true (P.counter n)) q = let z : _≡_ {A = ℕ} 0 1 = cc in absurd (omega arith)
+whole-shows (value false (P.counter n)) q = let z : _≡_ {A = ℕ} 0 1 = cc in absurd (omega arith)
+whole-shows (value true (P.variable n)) q = let z : _≡_ {A = ℕ} 0 1 = cc in absurd (omega arith)
+whole-shows (value false (P.variable n)) q = let z : _≡_ {A = ℕ} 0 1 = cc in absurd (omega arith)
 
 -- the numbers of an ending in a value
 value-known : (v : P.Value) (alone : Bool) (tail n : ℕ) (opens : Bool) → Value tail n opens ≡ valueEnding v alone → (opens ≡ alone) × (n ≡ numberOf v)
@@ -94,6 +107,18 @@ value-known (P.counter m) true tail n opens e = (cc, cc)
 value-known (P.counter m) false tail n opens e = (cc, cc)
 value-known (P.variable m) true tail n opens e = (cc, cc)
 value-known (P.variable m) false tail n opens e = (cc, cc)
+
+-- and the value that it shows
+pub value-shows : (s : Shows) (tail n : ℕ) (opens : Bool) → Value tail n opens ≡ endingOf s → (v : P.Value) × (s ≡ value opens v) × (n ≡ numberOf v)
+unfolding endingOf
+value-shows nothing tail n opens q = let z : _≡_ {A = ℕ} 0 1 = cc in absurd (omega arith)
+value-shows (value alone v) tail n opens q = let (same, is) = value-known v alone tail n opens q in (v, ap (λ b. value b v) (sym same), is)
+
+-- a line that ends in no value leaves the piece open
+pub whole-drawn : (old : List ℕ) (ending : Ending) (start end : ℕ) → ending ≡ Whole → DrawnNoted old ending start end old start
+unfolding ifValue opensAt
+whole-drawn old ending start end e =
+    record { noted = λ ds ps s h r q t. rw (whole-shows s (sym e ∙ q), append-nil) h; opens = λ s q. rw (whole-shows s (sym e ∙ q)) refl }
 
 pub tail-inside : (ending : Ending) (tail n : ℕ) (opens : Bool) (plan : List ℕ) (end : ℕ) → ending ≡ Value tail n opens → DrawnRoom plan ending end → tail ≤ end
 unfolding tailOf
@@ -106,19 +131,17 @@ number-small ending tail n opens plan end e d = let s : n < 26 = rw e at (d .sma
 -- a value at the end of a line closes the open piece
 pub value-drawn : (old new : List ℕ) (ending : Ending) (start end tail n b : ℕ) (opens : Bool) → ending ≡ Value tail n opens → ((v : P.Value) → n ≡ numberOf v → b ≡ behindIn (value opens v))
     → PieceNoted old start (end - tail) b new → DrawnNoted old ending start end new end
-unfolding endingOf ifValue opensAt tailOf
+unfolding ifValue opensAt tailOf
 value-drawn old new ending start end tail n b opens e k p = record { noted = λ ds ps s h r q t. notes ds ps s h r (sym e ∙ q) (sym (ap tailOf e) ∙ t); opens = λ s q. same s (sym e ∙ q) }
   where
     notes : (ds : List P.Define) (ps : List Piece) (s : Shows) → Holds ds ps old → length ps < 42 → Value tail n opens ≡ endingOf s → tail ≡ length (givesWay s)
         → Holds ds (ps ++ ifValue s (record { start = start; end = end - length (givesWay s); behind = s }) []) new
-    notes ds ps nothing h r q t = let z : _≡_ {A = ℕ} 0 1 = cc in absurd (omega arith)
-    notes ds ps (value alone v) h r q t =
-        let (same, is) = value-known v alone tail n opens q in
-        rw (← t, ← same) (p .noted ds ps (value opens v) h r (k v is))
+    notes ds ps s h r q t =
+        let (v, is, number) = value-shows s tail n opens q in
+        rw (← t, is) (p .noted ds ps (value opens v) h r (k v number))
 
     same : (s : Shows) → Value tail n opens ≡ endingOf s → end ≡ opensAt s start end
-    same nothing q = let z : _≡_ {A = ℕ} 0 1 = cc in absurd (omega arith)
-    same (value alone v) q = refl
+    same s q = let (v, is, number) = value-shows s tail n opens q in rw is refl
 
 -- an open piece and a definition
 pub gap-open : (old : List ℕ) (define : Define) → GapRoom old define → PieceRoom old

@@ -16,8 +16,8 @@ use Rattle.paper.proofs.Test.{Passed}
 use Rattle.command.specs.View.{width}
 use Rattle.form.specs.Plan.{showsOf}
 use Rattle.form.specs.Ending.{valueEnding, endingOf}
-use Rattle.form.specs.declared.plan.Ending.{Ending}
-use Rattle.form.specs.declared.plan.Ending.the-variants.{Whole}
+use Rattle.form.specs.declared.ending.Ending.{Ending}
+use Rattle.form.specs.declared.ending.Ending.the-variants.{Whole}
 use Rattle.form.proofs.Naming.{back, back-append, mark, Names, Naming, plain, named, naming}
 
 -- a counter is one of ten, a variable one of sixteen

@@ -2,6 +2,7 @@ pub mod Lines
 pub mod Slots
 pub mod Judged
 pub mod Broken
+pub mod Values
 pub mod Defined
 pub mod Naming
 pub mod LastBytes

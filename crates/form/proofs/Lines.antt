@@ -1,4 +1,4 @@
--- The lines of a form's text one after the other: where a line ends, and that the line which stands there reads as the form's.
+-- The lines of a form's text one after the other: where a line ends, and that the line which stands there is the form's.
 use Prim.Native.Nat.{ℕ, suc, _+_, _-_, _≤_, _<_}
 use mathlib.Core.Path.{_≡_, refl, sym, _∙_, ap}
 use mathlib.Core.Bool.{true, false, true≢false}
@@ -11,19 +11,20 @@ use lib.Dec.{ltb, eqb}
 use borrow.Author.Tests.{ltb-false, eq-eqb, ne-eqb}
 use Rattle.paper.specs.Byte.{any}
 use Rattle.paper.specs.Line.{lf, control}
-use Rattle.paper.specs.Command.{FormLine, empty, new, keep, file, ask, print, inRange}
-use Rattle.paper.specs.Read.{Reading, command, unread}
+use Rattle.paper.specs.Command.{FormLine, keep, inRange}
 use Rattle.paper.specs.Write.{lineText, normal, linesText}
 use Rattle.paper.specs.Form.{textOf}
 use Rattle.paper.specs.State.{allIn}
 use Rattle.paper.proofs.Law.{if-true, if-false, by-test, and-left, and-right}
 use Rattle.paper.proofs.Test.{either}
-use Rattle.paper.proofs.RoundTrip.{normal-control, read-normal}
+use Rattle.paper.proofs.RoundTrip.{normal-control}
 use Rattle.text.specs.Place.{from}
-use Rattle.command.specs.View.{width, viewOf, Stand}
-use Rattle.command.specs.declared.Command.{Command}
-use Rattle.line.specs.Given.{IsRead}
+use Rattle.command.specs.View.{width}
+use Rattle.form.specs.Asked.{lineOf}
 use Rattle.form.specs.Walk.{firstLine, partOf}
+use Rattle.form.specs.declared.asked.Define.{Define}
+use Rattle.form.specs.declared.asked.Line.{Line}
+use Rattle.form.specs.declared.asked.Line.the-variants.{Definition, Other}
 
 -- the walk to a line's end: one byte more is no LF
 pub end-turns : (text : List ℕ) (at i : ℕ) → at + length (firstLine (from text at)) ≡ i + length (firstLine (from text i)) → i < length text → (getD text i 0 ≡ 10 → ⊥) → at + length (firstLine (from text at)) ≡ i + 1 + length (firstLine (from text (i + 1)))
@@ -67,20 +68,13 @@ first-line (b ∷ s) r e =
     either (ltb b 0x20) (λ y. absurd (true≢false (rw y at e)))
     (λ n. let low : 0x20 ≤ b = ltb-false b 0x20 n in if-false (eqb b lf) _ _ (ne-eqb b lf (omega arith)) ∙ rw (first-line s r (rw n at e)))
 
--- a property of a form's lines, asked of a reading: of one that is none of them nothing is asked
-unfoldable pub Keeps : (FormLine → Type 0) → Reading → Type 0
-Keeps K (command empty) = Unit
-Keeps K (command new) = Unit
-Keeps K (command (keep l)) = K l
-Keeps K (command (file f)) = Unit
-Keeps K (command ask) = Unit
-Keeps K (command (print sets copies)) = Unit
-Keeps K (unread why) = Unit
+-- what a line is told to be
+abbrev pub Tells : List ℕ → Line → Type 0
+Tells s line = (l : FormLine) → s ≡ lineText l → inRange width (keep l) ≡ true → line ≡ lineOf l
 
--- a line of a form has what its record's case shows
-pub kept : (K : FormLine → Type 0) (s : List ℕ) (c d : Command) (l : FormLine) → c ≡ d → Keeps K (viewOf s d) → viewOf s c ≡ command (keep l) → K l
-unfolding Keeps
-kept K s c d l e k v = let is : viewOf s d ≡ command (keep l) = rw (← e) v in rw is at k
+-- a line that only draws is no definition
+pub clash : {A : Type 0} (define : Define) → Other ≡ Definition define → A
+clash define e = let z : _≡_ {A = ℕ} 0 1 = cc in absurd (omega arith)
 
 -- a line of a form at a place of its text, and behind its LF the other lines
 pub record Turn (text : List ℕ) (at : ℕ) (rest : List FormLine) (end : ℕ) : Type 0 where
@@ -121,13 +115,3 @@ line-turn text at (l ∷ more) end e i h p =
       below = and-right (inRange width (keep l)) _ i;
       range = inside;
     }
-
--- the record of a line of a form is the line's
-pub record Read (l : FormLine) (c : Command) : Type 0 where
-  pub view : viewOf (lineText l) c ≡ command (keep l)
-  pub stand : Stand (lineText l) c
-
--- a line of a form reads as itself
-pub line-reads : (s : List ℕ) (l : FormLine) (c : Command) → s ≡ lineText l → inRange width (keep l) ≡ true → IsRead s c → Read l c
-unfolding normal
-line-reads s l c e i r = record { view = rw e at (r .view) ∙ read-normal width (keep l) (omega arith) i; stand = rw e at (r .stand) }

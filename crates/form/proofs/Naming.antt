@@ -14,7 +14,7 @@ use Rattle.paper.proofs.Test.{Passed, held, held-right}
 use Rattle.command.specs.View.{width}
 use Rattle.form.specs.Plan.{showsOf}
 use Rattle.form.specs.Ending.{valueEnding, endingOf}
-use Rattle.form.specs.declared.plan.Ending.the-variants.{Whole}
+use Rattle.form.specs.declared.ending.Ending.the-variants.{Whole}
 
 -- the byte so many places before the end
 abbrev pub back : List ℕ → ℕ → ℕ

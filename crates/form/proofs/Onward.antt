@@ -9,11 +9,10 @@ use lib.Dec.{eqb}
 use Rattle.paper.specs.Byte.{bytes}
 use Rattle.paper.specs.Line.{quote, escape, quoted}
 use Rattle.paper.specs.Command as P
-use Rattle.paper.specs.Command.{FormLine, drawRanges, ranges, contentRanges, settingRanges, valueRange, allOf, inRange}
+use Rattle.paper.specs.Command.{FormLine, ranges, inRange}
 use Rattle.paper.specs.Form.{textOf, asked, valueOf}
 use Rattle.paper.specs.State.{allIn}
 use Rattle.paper.specs.Write.{lineText, drawText, defineText, contentText, settingText, valueText}
-use Rattle.paper.proofs.Test.{held, held-right, Passed}
 use Rattle.text.specs.Place.{from}
 use Rattle.command.specs.View.{width}
 use Rattle.form.specs.Asked.{defineOf, lineOf}
@@ -24,19 +23,12 @@ use Rattle.form.specs.Noting.{DrawnRoom, GapRoom, DrawnNoted, GapNoted, 
 use Rattle.form.specs.declared.asked.Define.{Define}
 use Rattle.form.specs.declared.asked.Line.{Line}
 use Rattle.form.specs.declared.asked.Line.the-variants.{Definition, Other}
-use Rattle.form.specs.declared.plan.Ending.{Ending}
-use Rattle.form.proofs.Lines.{Turn, line-turn, end-inside}
+use Rattle.form.specs.declared.ending.Ending.{Ending}
+use Rattle.form.proofs.Lines.{Tells, clash, Turn, line-turn, end-inside}
+use Rattle.form.proofs.Ends.{Ends, Shown, shown-range}
 use Rattle.form.proofs.LastBytes.{counter-few, variable-few, counter-text, variable-text}
 use Rattle.form.proofs.Distinct.{small, number-below}
 use Rattle.form.proofs.Memory.{piece-room}
-
--- what a line is told to be
-abbrev pub Tells : List ℕ → Line → Type 0
-Tells s line = (l : FormLine) → s ≡ lineText l → inRange width (P.keep l) ≡ true → line ≡ lineOf l
-
--- and what its ending
-abbrev pub Ends : List ℕ → Ending → Type 0
-Ends s ending = (d : P.Draw) → s ≡ lineText (P.draw d) → allOf (drawRanges width d) ≡ true → ending ≡ endingOf (showsOf d)
 
 -- a piece or none before others
 unless-then : (t : Bool) (p : Piece) (ps : List Piece) → unlessNone t p ps ≡ unlessNone t p [] ++ ps
@@ -58,21 +50,6 @@ if-one : (s : Shows) (p : Piece) → length (ifValue s p []) ≤ 1
 unfolding ifValue
 if-one nothing p = omega arith
 if-one (value alone v) p = omega arith
-
--- the value of a line in range
-abbrev Shown : Shows → Type 0
-Shown nothing = Unit
-Shown (value alone v) = Passed (valueRange v)
-
-shown-range : (d : P.Draw) → allOf (drawRanges width d) ≡ true → Shown (showsOf d)
-unfolding showsOf drawRanges contentRanges
-shown-range (P.size p₁ p₂) h = tt
-shown-range (P.direction d) h = tt
-shown-range (P.put s (P.text t)) h = tt
-shown-range (P.put s (P.shown v)) h = held-right (settingRanges width s) _ (held _ h) .0
-shown-range (P.put s (P.joined t v)) h = held-right (settingRanges width s) _ (held _ h) .1 .0
-shown-range (P.bar pen x y w t) h = tt
-shown-range (P.frame x₁ y₁ t x₂ y₂) h = tt
 
 -- its bytes are as many as its ending says
 tail-is : (s : Shows) → Shown s → tailOf (endingOf s) ≡ length (givesWay s)
@@ -112,9 +89,6 @@ define-small d i = number-below (valueOf d) (small d i)
 
 cons-tail : {x y : FormLine} {xs ys : List FormLine} → x ∷ xs ≡ y ∷ ys → xs ≡ ys
 cons-tail e = cc
-
-clash : {A : Type 0} (define : Define) → Other ≡ Definition define → A
-clash define e = let z : _≡_ {A = ℕ} 0 1 = cc in absurd (omega arith)
 
 -- a line ends in the text
 pub end-within : (text plan : List ℕ) (start at end : ℕ) → Walking text plan start at → end ≡ at + length (firstLine (from text at)) → end ≤ length text

@@ -7,14 +7,15 @@ use mathlib.Core.Option.{Option, none, some}
 use native.Mathlib.Omega.{arith}
 use native.Mathlib.Decide.{decLt}
 use lib.ListN.{length, getD, set, replicate, length-set, length-replicate, getD-replicate, List·getD-eq-default}
-use lib.Seq.{getD-set-same, getD-set-other}
+use lib.Seq.{set-out, getD-set-same, getD-set-other}
 use lib.Dec.{ltb, leb, eqb}
-use borrow.Author.Tests.{ltb-true, ltb-false, lt-ltb, le-ltb, eq-eqb, ne-eqb, lt-leb, le-leb}
+use borrow.Author.Tests.{leb-true, ltb-true, ltb-false, lt-ltb, le-ltb, eq-eqb, ne-eqb, lt-leb, le-leb}
 use Rattle.paper.specs.Command as P
-use Rattle.paper.specs.Command.{all}
+use Rattle.paper.specs.Command.{all, valueRange}
 use Rattle.paper.specs.Form.{valueOf, lenOf, sameValue, defined, isSome, roomFor, contentSound}
 use Rattle.paper.proofs.Law.{if-true, if-false}
-use Rattle.paper.proofs.Test.{either, clash}
+use Rattle.paper.proofs.Test.{Passed, either, clash}
+use Rattle.form.specs.Plan.{numberOf}
 use Rattle.form.specs.Sound.{placeIn, slotOf, Noted, Agrees}
 use Rattle.form.proofs.Distinct.{same-value}
 
@@ -27,6 +28,12 @@ place-none first last n h = sym (if-true _ _ _ (lt-ltb last n h))
 pub place-some : (first last n : ℕ) → n ≤ last → first + n ≡ placeIn first last n
 unfolding placeIn
 place-some first last n h = sym (if-false _ _ _ (le-ltb last n h))
+
+-- and a value in range has its number as its place
+pub place-number : (v : P.Value) → Passed (valueRange v) → numberOf v ≡ slotOf v
+unfolding numberOf slotOf valueRange
+place-number (P.counter n) h = omega (arith, place-some 0 9 n (leb-true n 9 (h .0)))
+place-number (P.variable n) h = place-some 10 15 n (leb-true n 15 (h .0))
 
 -- so a number with a place is not past the last
 place-below : (first last n : ℕ) → placeIn first last n < 26 → (n ≤ last) × (first + n ≡ placeIn first last n)
@@ -50,6 +57,9 @@ place-same (P.variable n) (P.variable m) h e =
 -- past the last place nothing is noted
 pub past-last : (lens : List ℕ) (slot : ℕ) → length lens ≤ slot → 0 ≡ getD lens slot 0
 past-last lens slot h = sym (List·getD-eq-default lens 0 h)
+
+pub past-noted : (lens : List ℕ) (slot len : ℕ) → length lens ≤ slot → lens ≡ set lens slot len
+past-noted lens slot len h = sym (set-out lens slot len h)
 
 -- a definition more is that of its value, if there was none
 defined-last : (v : P.Value) (above : List P.Define) (d : P.Define) → defined v above ≡ none → sameValue v (valueOf d) ≡ true → defined v (above ++ (d ∷ [])) ≡ some d

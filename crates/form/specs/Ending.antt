@@ -3,8 +3,8 @@ use Prim.Native.Nat.{ℕ, _+_}
 use mathlib.Core.Bool.{Bool, true, false}
 use Rattle.paper.specs.Command as P
 use Rattle.form.specs.Plan.{Shows, nothing, value}
-use Rattle.form.specs.declared.plan.Ending.{Ending}
-use Rattle.form.specs.declared.plan.Ending.the-variants.{Whole, Value}
+use Rattle.form.specs.declared.ending.Ending.{Ending}
+use Rattle.form.specs.declared.ending.Ending.the-variants.{Whole, Value}
 
 -- a value in place of the bytes that name it: alone it opens its quote, and else the quote before it goes too
 unfoldable pub valueEnding : P.Value → Bool → Ending

@@ -16,7 +16,7 @@ use Rattle.form.specs.Asked.{defineOf}
 use Rattle.form.specs.Plan.{numberOf, kindOf, stepSize, definesIn, Shows, nothing, value, givesWay, Piece, unlessNone, ifValue, opensAt, pieces, behindIn, piecesIn, planOf}
 use Rattle.form.specs.Ending.{endingOf, tailOf, numberIn}
 use Rattle.form.specs.declared.asked.Define.{Define}
-use Rattle.form.specs.declared.plan.Ending.{Ending}
+use Rattle.form.specs.declared.ending.Ending.{Ending}
 
 -- so many definitions and pieces in memory
 unfoldable pub planIn : List P.Define → List Piece → List ℕ

@@ -1,4 +1,4 @@
-// A line of a form as a definition, by the numbers that a plan needs of it.
+// A line of a form as a definition, by the numbers that the check and the plan need of it.
 ghost use mathlib.Core.Path.{_≡_};
 ghost use mathlib.Core.Bool.{true};
 ghost use mathlib.Core.List.{List};

@@ -4,26 +4,27 @@ ghost use mathlib.Core.Bool.{true, not, _&&_};
 ghost use mathlib.Core.List.{List};
 ghost use Prim.Native.Nat.{ℕ, _+_, _≤_, _<_};
 ghost use lib.Dec.{eqb, leb};
-ghost use lib.ListN.{getD};
+ghost use lib.ListN.{length, getD, set};
 ghost use Rattle.paper.specs.Command as P;
-ghost use Rattle.paper.specs.Command.{all, inRange};
-ghost use Rattle.paper.specs.Form.{textOf, valueOf, lenOf, contentSound, unsoundAt};
-ghost use Rattle.paper.specs.Read.{command};
+ghost use Rattle.paper.specs.Command.{drawRanges, all, allOf, inRange};
+ghost use Rattle.paper.specs.Form.{textOf, valueOf, lenOf, drawSound, rules, unsoundAt};
+ghost use Rattle.paper.specs.Write.{lineText};
 ghost use Rattle.paper.specs.State.{allIn};
-ghost use Rattle.command.specs.View.{width, viewOf, contentOf, ContentStands, Stand};
+ghost use Rattle.command.specs.View.{width};
+ghost use Rattle.form.specs.Asked.{defineOf};
 ghost use Rattle.form.specs.Sound.{placeIn, slotOf, Agrees, Judges, lineNumber};
+use crate::asked::Define;
+use crate::asked::Line;
+use crate::asked::line_in;
+use crate::ending::Ending;
+use crate::ending::ending_of;
 use crate::walk::line_end;
-use command::Command;
-use command::Content;
 use command::range::beyond;
-use line::read::read_line;
-
-// Whether a line keeps the rules, and the lens of the definitions with it: each counter's and then each variable's, 0 where
-// none is defined yet.
-pub struct Checked {
-    pub sound: bool,
-    pub lens: [usize; 26],
-}
+use line::parts::SettingRead;
+use line::parts::setting_at;
+use text::read::Quoted;
+use text::read::byte_at;
+use text::read::string_at;
 
 // The place of a value's len: those of its kind stand from `first` on, with numbers up to `last`; 26 is the place of none.
 fn slot_of(first: usize, last: usize, n: usize) -> usize
@@ -37,13 +38,22 @@ fn slot_of(first: usize, last: usize, n: usize) -> usize
 }
 
 // The len at a place, 0 at the place of none.
-fn len_at(lens: [usize; 26], slot: usize) -> usize
-    ensures { λ r. ⌜ r ≡ getD lens slot 0 ⌝ }
+fn len_at(lens: &[usize], slot: usize) -> usize
+    ensures { λ r. ⌜ r ≡ getD (now (lens .entry)) slot 0 ⌝ }
 {
-    if slot < 26 {
+    if slot < lens.len() {
         return lens[slot];
     }
     0
+}
+
+// Notes a len at a place; at the place of none nothing is noted.
+fn note_len(lens: &mut [usize], slot: usize, len: usize)
+    ensures { λ _. ⌜ now (lens .exit) ≡ set (now (lens .entry)) slot len ⌝ }
+{
+    if slot < lens.len() {
+        lens[slot] = len;
+    }
 }
 
 // A string of some length and a value of some defined len, which may be none.
@@ -59,84 +69,91 @@ fn joined_sound(string: usize, len: usize) -> bool
     true
 }
 
-// A content names only what is defined above, and is not too long with it.
-fn content_sound(lens: [usize; 26], c: Content) -> bool
-    ensures { λ r. ⌜ ((s : List ℕ) (above : List P.Define) → Agrees lens above → ContentStands s c → r ≡ all (contentSound above (contentOf s c))) ⌝ }
+// The length of the string that a text joins to a value.
+fn string_len(line: &[u8]) -> usize
+    ensures { λ r. ⌜ ((s : P.Setting) (t : List ℕ) (v : P.Value) → now (line .entry) ≡ lineText (P.draw (P.put s (P.joined t v))) → allOf (drawRanges width (P.put s (P.joined t v))) ≡ true → r ≡ length t) ⌝ }
 {
-    match c {
-        Content::Text { string: _ } => true,
-        Content::Counter { n } => len_at(lens, slot_of(0, 9, n)) != 0,
-        Content::Variable { n } => len_at(lens, slot_of(10, 15, n)) != 0,
-        Content::TextCounter { string, n } => joined_sound(
-            string.len,
-            len_at(lens, slot_of(0, 9, n)),
-        ),
-        Content::TextVariable { string, n } => joined_sound(
-            string.len,
-            len_at(lens, slot_of(10, 15, n)),
-        ),
-    }
+    let SettingRead::Value { setting: _, next } = setting_at(line, 1) else {
+        return 0;
+    };
+    let Quoted::Held { span } = string_at(line, next) else {
+        return 0;
+    };
+    span.len
 }
 
-// A text with k lines above it: not one of the first two, and its content sound.
-fn check_text(k: usize, lens: [usize; 26], content: Content) -> Checked
-    ensures { λ r. ⌜ ((s : List ℕ) (above : List P.Define) (setting : P.Setting) → Agrees lens above → ContentStands s content → Judges k above (P.draw (P.put setting (contentOf s content))) r) ⌝ }
+// A line that draws shows only a value that is defined above, and its string is not too long with it.
+fn draw_sound(lens: &[usize], line: &[u8]) -> bool
+    ensures { λ r. ⌜ ((d : P.Draw) (above : List P.Define) → now (line .entry) ≡ lineText (P.draw d) → allOf (drawRanges width d) ≡ true → Agrees (now (lens .entry)) above → r ≡ all (drawSound above d)) ⌝ }
 {
-    if k < 2 {
-        return Checked { sound: false, lens };
+    let Ending::Value {
+        tail: _,
+        value,
+        opens,
+    } = ending_of(line)
+    else {
+        return true;
+    };
+    let len = len_at(lens, value);
+    if opens {
+        return len != 0;
     }
-    Checked {
-        sound: content_sound(lens, content),
-        lens,
-    }
+    joined_sound(string_len(line), len)
 }
 
-// A definition with k lines above it: not one of the first two, and of no value that is defined above.
-fn check_define(k: usize, lens: [usize; 26], slot: usize, len: usize) -> Checked
-    ensures { λ r. ⌜ ((above : List P.Define) (d : P.Define) → Agrees lens above → slot ≡ slotOf (valueOf d) → len ≡ lenOf d → slot < 26 → 1 ≤ len → Judges k above (P.define d) r) ⌝ }
+// A line that draws, with k lines above it: a `Q` is the first, a `Z` the second, and any other stands below them.
+fn draw_rules(k: usize, lens: &[usize], line: &[u8]) -> bool
+    ensures { λ r. ⌜ ((d : P.Draw) (above : List P.Define) → now (line .entry) ≡ lineText (P.draw d) → allOf (drawRanges width d) ≡ true → Agrees (now (lens .entry)) above → r ≡ all (rules k above (P.draw d))) ⌝ }
+{
+    let b = byte_at(line, 0);
+    if b == b'Q' {
+        return k == 0;
+    }
+    if b == b'Z' {
+        return k == 1;
+    }
+    if k < 2 {
+        return false;
+    }
+    draw_sound(lens, line)
+}
+
+// A definition with k lines above it: not one of the first two, and of no value that is defined above. Its len is noted.
+fn check_define(k: usize, lens: &mut [usize], slot: usize, len: usize) -> bool
+    ensures { λ r. ⌜ ((d : P.Define) (above : List P.Define) → slot ≡ slotOf (valueOf d) → len ≡ lenOf d → slot < 26 → 1 ≤ len → Agrees (now (lens .entry)) above → Judges k above (P.define d) r (now (lens .exit))) ⌝ }
+    ensures { λ _. ⌜ length (now (lens .exit)) ≡ length (now (lens .entry)) ⌝ }
 {
     if k < 2 {
-        return Checked { sound: false, lens };
+        return false;
     }
     if len_at(lens, slot) != 0 {
-        return Checked { sound: false, lens };
+        return false;
     }
-    let mut more = lens;
-    if slot < 26 {
-        more[slot] = len;
-    }
-    Checked {
-        sound: true,
-        lens: more,
+    note_len(lens, slot, len);
+    true
+}
+
+// A definition that was read, with k lines above it.
+fn check_defined(k: usize, lens: &mut [usize], define: Define) -> bool
+    ensures { λ r. ⌜ ((d : P.Define) (above : List P.Define) → define ≡ defineOf d → inRange width (P.keep (P.define d)) ≡ true → Agrees (now (lens .entry)) above → Judges k above (P.define d) r (now (lens .exit))) ⌝ }
+    ensures { λ _. ⌜ length (now (lens .exit)) ≡ length (now (lens .entry)) ⌝ }
+{
+    match define {
+        Define::Counter { n, len, step: _ } => check_define(k, lens, slot_of(0, 9, n), len),
+        Define::Variable { n, len } => check_define(k, lens, slot_of(10, 15, n), len),
     }
 }
 
-// A line with k lines above it. A bar or a frame goes anywhere below the first two; no other record is one of a form.
-fn check_line(k: usize, lens: [usize; 26], c: Command) -> Checked
-    ensures { λ r. ⌜ ((s : List ℕ) (l : P.FormLine) (above : List P.Define) → viewOf s c ≡ command (P.keep l) → Stand s c → inRange width (P.keep l) ≡ true → Agrees lens above → Judges k above l r) ⌝ }
+// Whether a line with k lines above it keeps the rules. The lens are those of the definitions above, each counter's and then each
+// variable's, 0 where none is defined yet; that of a definition is noted.
+fn check_line(k: usize, lens: &mut [usize], line: &[u8]) -> bool
+    ensures { λ r. ⌜ ((l : P.FormLine) (above : List P.Define) → now (line .entry) ≡ lineText l → inRange width (P.keep l) ≡ true → Agrees (now (lens .entry)) above → Judges k above l r (now (lens .exit))) ⌝ }
+    ensures { λ _. ⌜ length (now (lens .exit)) ≡ length (now (lens .entry)) ⌝ }
 {
-    match c {
-        Command::Size { p1: _, p2: _ } => Checked {
-            sound: k == 0,
-            lens,
-        },
-        Command::Direction { d: _ } => Checked {
-            sound: k == 1,
-            lens,
-        },
-        Command::Text { put } => {
-            let content = put.content;
-            check_text(k, lens, content)
-        }
-        Command::Counting {
-            n,
-            len,
-            step: _,
-            prompt: _,
-        } => check_define(k, lens, slot_of(0, 9, n), len),
-        Command::Varying { n, len, prompt: _ } => check_define(k, lens, slot_of(10, 15, n), len),
-        _ => Checked { sound: 1 < k, lens },
-    }
+    let Line::Definition { define } = line_in(line) else {
+        return draw_rules(k, lens, line);
+    };
+    check_defined(k, lens, define)
 }
 
 // The first line that breaks a rule, counted from 1, or 0 if the form is sound.
@@ -148,12 +165,10 @@ pub fn unsound_at(text: &[u8]) -> usize
     let mut k = 0;
     while at < text.len() {
         let end = line_end(text, at);
-        let c = read_line(&text[at..end]);
-        let r = check_line(k, lens, c);
-        if !r.sound {
+        let sound = check_line(k, &mut lens, &text[at..end]);
+        if !sound {
             return k + 1;
         }
-        lens = r.lens;
         k += 1;
         at = end + 1;
     }

@@ -23,7 +23,7 @@ use Rattle.command.specs.declared.Refusal.the-variants as W
 use Rattle.command.specs.declared.Command.{Command}
 use Rattle.command.specs.declared.Answer.{Answer}
 use Rattle.command.specs.declared.Answer.the-variants as A
-use Rattle.normal.specs.Normal.{recordHeld, readable, readingText, writeReading, writeOf}
+use Rattle.normal.specs.Normal.{recordHeld, readable, readingText, writeReading, writeOf, WritesLine}
 
 -- writing a reading that no line has
 reading-out : (room : ℕ) (r : Read.Reading) → readable r ≡ false → writeReading room r ≡ R.refused R.outOfRange
@@ -43,12 +43,12 @@ unfolding Reports R.lent
 refused-meets a old why e = rw e (record { reports = refl; buffer = refl })
 
 -- the code's answer for a record that no line reads as
-pub meets-out : (s : List ℕ) (c : Command) (room : ℕ) (old : List ℕ) (t : Bool) → t ≡ (recordHeld s c && readable (viewOf s c)) → t ≡ false → Meets (writeOf s room c) old old (A.Refused W.OutOfRange)
+pub meets-out : (s : List ℕ) (c : Command) (old : List ℕ) (t : Bool) → t ≡ (recordHeld s c && readable (viewOf s c)) → t ≡ false → WritesLine s c old old (A.Refused W.OutOfRange)
 unfolding writeOf refusalOf if_then_else_
-meets-out s c room old t p e = refused-meets (writeOf s room c) old W.OutOfRange (go (recordHeld s c) (sym p ∙ e))
+meets-out s c old t p e = record { meets = refused-meets (writeOf s (length old) c) old W.OutOfRange (go (recordHeld s c) (sym p ∙ e)) }
   where
-    go : (h : Bool) → (h && readable (viewOf s c)) ≡ false → (if h then writeReading room (viewOf s c) else R.refused R.outOfRange) ≡ R.refused R.outOfRange
-    go true q = reading-out room (viewOf s c) q
+    go : (h : Bool) → (h && readable (viewOf s c)) ≡ false → (if h then writeReading (length old) (viewOf s c) else R.refused R.outOfRange) ≡ R.refused R.outOfRange
+    go true q = reading-out (length old) (viewOf s c) q
     go false q = refl
 
 -- the answer that some line reads as a record
@@ -65,21 +65,27 @@ unfolding writeOf
 write-in s c room t p e = if-true (recordHeld s c) _ _ (told-record s c t p e) ∙ reading-in room (viewOf s c) (told-readable s c t p e)
 
 -- the code's answer for a buffer that is too short
-pub meets-short : (s : List ℕ) (c : Command) (t : Bool) (old out new : List ℕ) (len : ℕ) → t ≡ (recordHeld s c && readable (viewOf s c)) → t ≡ true → Writes out 0 (readingText (viewOf s c)) new len → length old < len → Meets (writeOf s (length old) c) old old (A.Refused W.TooShort)
+pub meets-short : (s : List ℕ) (c : Command) (t : Bool) (old out new : List ℕ) (len : ℕ) → t ≡ (recordHeld s c && readable (viewOf s c)) → t ≡ true → Writes out 0 (readingText (viewOf s c)) new len → length old < len → WritesLine s c old old (A.Refused W.TooShort)
 unfolding refusalOf
 meets-short s c t old out new len p e w l =
-    refused-meets (writeOf s (length old) c) old W.TooShort
-    (write-in s c (length old) t p e ∙ if-false _ _ _ (lt-leb (length (readingText (viewOf s c))) (length old) (omega (arith, w .ends))))
+    record {
+      meets =
+          refused-meets (writeOf s (length old) c) old W.TooShort
+          (write-in s c (length old) t p e ∙ if-false _ _ _ (lt-leb (length (readingText (viewOf s c))) (length old) (omega (arith, w .ends))));
+    }
 
 -- the bytes at the front of the place where the normal form was built
 pub front-length : (out text new : List ℕ) (len : ℕ) → Writes out 0 text new len → len ≡ length (take len new)
 front-length out text new len w = sym (length-take-le len new (omega (arith, w .room, writes-length out 0 text new len w)))
 
 -- and the code's answer for one with room
-pub meets-room : (s : List ℕ) (c : Command) (t : Bool) (old out mid new : List ℕ) (len next : ℕ) → t ≡ (recordHeld s c && readable (viewOf s c)) → t ≡ true → Writes out 0 (readingText (viewOf s c)) mid len → len ≤ length old → Writes old 0 (take len mid) new next → Meets (writeOf s (length old) c) old new (A.Accepted len)
+pub meets-room : (s : List ℕ) (c : Command) (t : Bool) (old out mid new : List ℕ) (len next : ℕ) → t ≡ (recordHeld s c && readable (viewOf s c)) → t ≡ true → Writes out 0 (readingText (viewOf s c)) mid len → len ≤ length old → Writes old 0 (take len mid) new next → WritesLine s c old new (A.Accepted len)
 unfolding Reports R.lent written
 meets-room s c t old out mid new len next p e w l v =
     let same : take len mid ≡ readingText (viewOf s c) = writes-take out 0 _ mid len w in
     let size : 0 + length (readingText (viewOf s c)) ≡ length (readingText (viewOf s c)) = omega arith in
-    rw (write-in s c (length old) t p e, if-true _ (R.accepted (readingText (viewOf s c))) (R.refused R.tooShort) (le-leb (length (readingText (viewOf s c))) (length old) (omega (arith, w .ends))))
-    (record { reports = omega (arith, w .ends); buffer = v .is ∙ rw (same, size) })
+    record {
+      meets =
+          rw (write-in s c (length old) t p e, if-true _ (R.accepted (readingText (viewOf s c))) (R.refused R.tooShort) (le-leb (length (readingText (viewOf s c))) (length old) (omega (arith, w .ends))))
+          (record { reports = omega (arith, w .ends); buffer = v .is ∙ rw (same, size) });
+    }

@@ -24,9 +24,11 @@ use Rattle.command.specs.declared.Content.{Content}
 use Rattle.command.specs.declared.Content.the-variants as C
 use Rattle.command.specs.declared.Command.{Command}
 use Rattle.command.specs.declared.Command.the-variants as M
+use Rattle.command.specs.declared.Answer.{Answer}
 use Rattle.command.specs.declared.Answer.the-variants as A
+use Rattle.command.proofs.Outcome.{meets-one}
 use Rattle.line.specs.Given.{IsRead}
-use Rattle.normal.specs.Normal.{closesWith, heldAt, contentHeld, recordHeld, writeReading, writeOf}
+use Rattle.normal.specs.Normal.{closesWith, heldAt, contentHeld, recordHeld, writeReading, writeOf, WritesLine}
 
 -- an accepted call was not refused by the paper
 never-refused : {K : Type 0} (r : R.Refusal) (old new : List ℕ) (len : ℕ) → Meets (R.refused r) old new (A.Accepted len) → K
@@ -50,11 +52,15 @@ reading-reads room (Read.command p) old new len =
 reading-reads room (Read.unread r) old new len = never-refused R.outOfRange old new len
 
 -- the bytes that an accepted call writes read as the record that it was given
-pub write-reads : (s : List ℕ) (room : ℕ) (c : Command) (old new : List ℕ) (len : ℕ) → Meets (writeOf s room c) old new (A.Accepted len) → Read.read width (take len new) ≡ viewOf s c
+pub write-reads : (s : List ℕ) (c : Command) (old new : List ℕ) (len : ℕ) → WritesLine s c old new (A.Accepted len) → Read.read width (take len new) ≡ viewOf s c
 unfolding writeOf
-write-reads s room c old new len =
+write-reads s c old new len w =
     by-test (λ a. Meets a old new (A.Accepted len) → Read.read width (take len new) ≡ viewOf s c) (recordHeld s c) _ _
-    (λ _. reading-reads room (viewOf s c) old new len) λ _. never-refused R.outOfRange old new len
+    (λ _. reading-reads (length old) (viewOf s c) old new len) (λ _. never-refused R.outOfRange old new len) (w .meets)
+
+-- and no call of it has two outcomes
+pub write-unique : (s : List ℕ) (c : Command) (old new new′ : List ℕ) (r r′ : Answer) → WritesLine s c old new r → WritesLine s c old new′ r′ → (new ≡ new′) × (r ≡ r′)
+write-unique s c old new new′ r r′ w w′ = meets-one _ old new new′ r r′ (w .meets) (w′ .meets)
 
 -- a string that holds is found at its place
 pub holds-held : (s : List ℕ) (string : Span) → Holds s string → heldAt s string ≡ true
@@ -97,6 +103,9 @@ stand-held s (M.Print sets copies) h = refl
 stand-held s (M.Refused why) h = refl
 
 -- a record that was read is written as the paper writes the line's command
-pub read-writes : (s : List ℕ) (room : ℕ) (c : Command) (p : P.Command) → IsRead s c → Read.read width s ≡ Read.command p → writeOf s room c ≡ Write.write width room p
+written-as : (s : List ℕ) (room : ℕ) (c : Command) (p : P.Command) → IsRead s c → Read.read width s ≡ Read.command p → writeOf s room c ≡ Write.write width room p
 unfolding writeOf writeReading
-read-writes s room c p h e = if-true (recordHeld s c) _ _ (stand-held s c (h .stand)) ∙ rw (h .view, e)
+written-as s room c p h e = if-true (recordHeld s c) _ _ (stand-held s c (h .stand)) ∙ rw (h .view, e)
+
+pub read-writes : (s : List ℕ) (c : Command) (p : P.Command) (old new : List ℕ) (r : Answer) → IsRead s c → Read.read width s ≡ Read.command p → WritesLine s c old new r → Meets (Write.write width (length old) p) old new r
+read-writes s c p old new r h e w = rw (sym (written-as s (length old) c p h e)) (w .meets)

@@ -15,11 +15,13 @@ use Rattle.text.specs.declared.read.Span.{Span}
 use Rattle.text.specs.declared.read.Closing.{Closing}
 use Rattle.text.specs.declared.read.Closing.the-variants.{At, Open}
 use Rattle.command.specs.View.{width, textIn, viewOf}
+use Rattle.command.specs.Answer.{Meets}
 use Rattle.command.specs.declared.Bar.{Bar}
 use Rattle.command.specs.declared.Content.{Content}
 use Rattle.command.specs.declared.Content.the-variants as C
 use Rattle.command.specs.declared.Command.{Command}
 use Rattle.command.specs.declared.Command.the-variants as M
+use Rattle.command.specs.declared.Answer.{Answer}
 
 -- a string that is being read closes at a place with a length
 unfoldable pub closesWith : ℕ → ℕ → Closing → Bool
@@ -103,3 +105,7 @@ writeReading room (Read.unread r) = R.refused R.outOfRange
 -- writing a record with its source: 6 where no line reads as it, else the paper's writing of its reading
 unfoldable pub writeOf : List ℕ → ℕ → Command → R.Answer
 writeOf s room c = if recordHeld s c then writeReading room (viewOf s c) else R.refused R.outOfRange
+
+-- `write_line`: that answer, with the lent buffer
+pub record WritesLine (s : List ℕ) (c : Command) (old new : List ℕ) (r : Answer) : Type 0 where
+  pub meets : Meets (writeOf s (length old) c) old new r

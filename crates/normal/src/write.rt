@@ -11,8 +11,7 @@ ghost use Rattle.paper.specs.Write.{commaed, two, valueText, contentText, stepT
 ghost use Rattle.text.specs.Place.{textAt, Closes};
 ghost use Rattle.text.specs.Write.{Writes};
 ghost use Rattle.command.specs.View.{width, textIn, stepOf, contentOf, settingOf, putOf, viewOf};
-ghost use Rattle.command.specs.Answer.{Meets};
-ghost use Rattle.normal.specs.Normal.{Room, barText, nameText, heldAt, shownAt, contentHeld, contentShown, recordHeld, readable, readingText, writeOf};
+ghost use Rattle.normal.specs.Normal.{Room, barText, nameText, heldAt, shownAt, contentHeld, contentShown, recordHeld, readable, readingText, WritesLine};
 use command::Answer;
 use command::Bar;
 use command::Command;
@@ -516,7 +515,7 @@ fn is_readable(s: &[u8], c: Command) -> bool
 
 // Writes a record of a line in normal form: 6 for one that no line reads as, 15 for a short buffer, and then nothing written.
 pub fn write_line(s: &[u8], c: Command, buf: &mut [u8]) -> Answer
-    ensures { λ r. ⌜ Meets (writeOf (now (s .entry)) (length (now (buf .entry))) c) (now (buf .entry)) (now (buf .exit)) r ⌝ }
+    ensures { λ r. ⌜ WritesLine (now (s .entry)) c (now (buf .entry)) (now (buf .exit)) r ⌝ }
 {
     if !is_readable(s, c) {
         return Answer::Refused {

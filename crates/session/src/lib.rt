@@ -1,14 +1,5 @@
-// One session and the stored forms, in memory that is lent: what a line does in every state, and what a take does.
-pub mod answer;
-pub mod call;
-pub mod collect;
-pub mod file;
-pub mod listen;
+// One session and the stored forms, in memory that is lent: its states, and what becomes of it where a line is refused.
+pub mod change;
 pub mod name;
-pub mod numbers;
-pub mod print;
-pub mod refusal;
 pub mod reply;
-pub mod shelf;
 pub mod state;
-pub mod wait;

@@ -1,20 +1,22 @@
--- Strings between quotes: what each byte does in the two moods, read at its place, and where a string that was read closes.
+-- Strings between quotes: what each byte does in the two moods, read at its place, where a run of plain bytes ends, and where a
+-- string that was read closes.
 -- What is left behind a string is an end of the line, so that its length tells the place of the closing quote.
 use mathlib.Core.Path.{_≡_, refl, sym, _∙_, ap}
-use mathlib.Core.Bool.{Bool, true, false}
+use mathlib.Core.Bool.{Bool, true, false, _||_}
 use mathlib.Core.List.{List, [], _∷_}
 use Prim.Native.Nat.{ℕ, suc, _+_, _-_, _≤_, _<_}
-use native.Mathlib.Nat.{zero-add}
+use native.Mathlib.Nat.{zero-add, add-zero}
 use native.Mathlib.Omega.{arith}
 use native.Mathlib.Numerals.{add-one}
 use lib.ListN.{length, drop, getD, length-drop, drop-of-length-le}
 use lib.Seq.{drop-cons, drop-drop}
 use lib.Dec.{eqb}
 use native.Mathlib.Decide.{ℕ-discrete}
-use borrow.Author.Tests.{eq-eqb, ne-eqb}
+use borrow.Author.Tests.{eqb-true, eq-eqb, ne-eqb}
+use Rattle.paper.specs.Byte.{if_then_else_}
 use Rattle.paper.specs.Line.{Got, got, bad, followed, give, byte, quote, backslash, within, plain, escaped, string}
 use Rattle.text.proofs.Place.{stands, one-fails, one-passes}
-use Rattle.text.specs.Place.{byteAt, from, closing, quotedAt, contentOf, textAt, Closes}
+use Rattle.text.specs.Place.{byteAt, from, run, runEnd, closing, quotedAt, contentOf, textAt, Closes}
 use Rattle.text.specs.declared.read.Closing.{Closing}
 use Rattle.text.specs.declared.read.Closing.the-variants.{At, Open}
 use Rattle.text.specs.declared.read.Span.{Span}
@@ -64,6 +66,58 @@ unfolding closing within followed give
 closing-within s len b (got c rest) = ap (At (length s - suc (length rest))) (omega arith)
 closing-within s len b bad = refl
 
+-- the code's answer past the end: the run ends there
+pub run-past : (s : List ℕ) (i end : ℕ) → runEnd s i ≡ end → length s ≤ i → i ≡ end
+unfolding runEnd run from
+run-past s i end e h =
+    let none : run (from s i) ≡ 0 = rw (drop-of-length-le s {i = i} h) in
+    omega arith
+
+-- at a quote or a backslash: the run ends
+pub run-stops : (s : List ℕ) (i end b : ℕ) → runEnd s i ≡ end → i < length s → getD s i 0 ≡ b → (eqb b quote || eqb b backslash) ≡ true → i ≡ end
+unfolding runEnd run if_then_else_
+run-stops s i end b e h q t = let none : run (from s i) ≡ 0 = rw (from-cons s i h, q, run, t) in omega arith
+
+-- at any other byte it goes on
+pub run-goes : (s : List ℕ) (i end : ℕ) → runEnd s i ≡ end → i < length s → (getD s i 0 ≡ 34 → ⊥) → (getD s i 0 ≡ 92 → ⊥) → runEnd s (i + 1) ≡ end
+unfolding runEnd run if_then_else_
+run-goes s i end e h q k =
+    let more : run (from s i) ≡ suc (run (from s (i + 1))) = rw (from-cons s i h, run, ne-eqb _ 34 q, ne-eqb _ 92 k) in
+    omega arith
+
+-- a run is content: a string closes where it closes behind the run, with so many bytes more
+run-content : (s : List ℕ) (len : ℕ) (x : List ℕ) → closing s len (plain x) ≡ closing s (len + run x) (plain (drop (run x) x))
+unfolding run if_then_else_
+run-content s len [] = rw add-zero
+run-content s len (b ∷ x) = go (eqb b quote) (eqb b backslash) refl refl (run-content s (len + 1) x)
+  where
+    go : (q k : Bool) → eqb b quote ≡ q → eqb b backslash ≡ k → closing s (len + 1) (plain x) ≡ closing s (len + 1 + run x) (plain (drop (run x) x)) → closing s len (plain (b ∷ x)) ≡ closing s (len + run (b ∷ x)) (plain (drop (run (b ∷ x)) (b ∷ x)))
+    go true k e f h = rw (run, e, add-zero)
+    go false true e f h = rw (run, e, f, add-zero)
+    go false false e f h =
+        let more : len + 1 + run x ≡ len + suc (run x) = omega arith in
+        rw (run, e, f, plain-cons, e, f, closing-within) (rw more at h)
+
+-- behind a run stands a quote or a backslash
+run-marked : (x : List ℕ) (b : ℕ) (y : List ℕ) → drop (run x) x ≡ b ∷ y → (eqb b quote || eqb b backslash) ≡ true
+unfolding run if_then_else_
+run-marked [] b y p = let z : _≡_ {A = ℕ} 0 1 = cc in absurd (omega arith)
+run-marked (c ∷ x) b y p = go (eqb c quote || eqb c backslash) refl (run-marked x b y) p
+  where
+    go : (t : Bool) → (eqb c quote || eqb c backslash) ≡ t → (drop (run x) x ≡ b ∷ y → (eqb b quote || eqb b backslash) ≡ true) → drop (run (c ∷ x)) (c ∷ x) ≡ b ∷ y → (eqb b quote || eqb b backslash) ≡ true
+    go true e ih p =
+        let same : c ∷ x ≡ b ∷ y = rw (run, e) at p in
+        let first : c ≡ b = cc in
+        rw first at e
+    go false e ih p = ih (rw (run, e) at p)
+
+-- where a run ends at no quote it ends at a backslash
+pub run-turns : (s : List ℕ) (at end : ℕ) → end ≡ runEnd s at → end < length s → (getD s end 0 ≡ 34 → ⊥) → getD s end 0 ≡ 92
+unfolding runEnd from
+run-turns s at end e h q =
+    let here : drop (run (from s at)) (from s at) ≡ getD s end 0 ∷ from s (end + 1) = drop-drop (run (from s at)) at s ∙ rw (← e) (from-cons s end h) in
+    eqb-true _ 92 (rw (ne-eqb _ 34 q) at (run-marked (from s at) _ _ here))
+
 -- the code's answer in the plain mood past the end: the string stays open
 pub plain-open : (s : List ℕ) (at len : ℕ) → length s ≤ at → Open ≡ closing s len (plain (from s at))
 unfolding closing
@@ -81,9 +135,12 @@ plain-shut s at len h e =
 pub plain-turns : (s : List ℕ) (at len : ℕ) (r : Closing) → at < length s → getD s at 0 ≡ 92 → r ≡ closing s len (escaped (from s (at + 1))) → r ≡ closing s len (plain (from s at))
 plain-turns s at len r h e p = rw (plain-backslash s at h e) p
 
--- at any other byte: what the plain mood answers from the next place on, with one byte more
-pub plain-goes : (s : List ℕ) (at len : ℕ) (r : Closing) → at < length s → (getD s at 0 ≡ 34 → ⊥) → (getD s at 0 ≡ 92 → ⊥) → r ≡ closing s (len + 1) (plain (from s (at + 1))) → r ≡ closing s len (plain (from s at))
-plain-goes s at len r h q k p = rw (plain-other s at h q k, closing-within) p
+-- behind a run of other bytes: what the plain mood answers from the run's end on, with its bytes counted
+pub plain-run : (s : List ℕ) (at len end : ℕ) (r : Closing) → end ≡ runEnd s at → r ≡ closing s (len + (end - at)) (plain (from s end)) → r ≡ closing s len (plain (from s at))
+unfolding runEnd from
+plain-run s at len end r e p =
+    let size : end - at ≡ run (from s at) = omega arith in
+    p ∙ rw (size, e, ← drop-drop) (sym (run-content s len (from s at)))
 
 -- the code's answer behind a backslash past the end: the string stays open
 pub escaped-open : (s : List ℕ) (at len : ℕ) → length s ≤ at → Open ≡ closing s len (escaped (from s at))

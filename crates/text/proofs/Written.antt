@@ -106,6 +106,11 @@ decimal-one old at new next n h w =
     let same : n % 10 ≡ n = omega arith in
     rw (decimal-small n h) (rw same at w)
 
+-- from 10 up to 99: its two digits
+pub decimal-two : (old : List ℕ) (at : ℕ) (new : List ℕ) (next n : ℕ) → 10 ≤ n → n < 100 → Writes old at (two n) new next → Writes old at (decimal n) new next
+unfolding two
+decimal-two old at new next n h l w = rw (decimal-big n h, decimal-small (n / 10) (omega arith)) w
+
 -- and from 10 on: the last digit behind those of its tens
 pub decimal-more : (old : List ℕ) (at : ℕ) (mid : List ℕ) (place : ℕ) (new : List ℕ) (next n : ℕ) → 10 ≤ n → Writes old at (decimal (n / 10)) mid place → Writes mid place ((48 + n % 10) ∷ []) new next → Writes old at (decimal n) new next
 decimal-more old at mid place new next n h p q = rw (decimal-big n h) (writes-then old at _ mid place _ new next p q)

@@ -1,11 +1,12 @@
 -- Places in a line, and the leaf readers: what each answers is the paper's reader on the bytes from a place on.
 use Prim.Native.Nat.{ℕ, suc, _+_, _-_, _≤_, _<_}
 use mathlib.Core.Path.{_≡_}
-use mathlib.Core.List.{List, []}
+use mathlib.Core.Bool.{_||_}
+use mathlib.Core.List.{List, [], _∷_}
 use lib.ListN.{length, drop, getD}
 use lib.Dec.{eqb}
 use Rattle.paper.specs.Byte.{if_then_else_}
-use Rattle.paper.specs.Line.{Got, got, bad, followed, comma, give, plain, backslash}
+use Rattle.paper.specs.Line.{Got, got, bad, followed, comma, give, plain, quote, backslash}
 use Rattle.text.specs.declared.read.Number.{Number}
 use Rattle.text.specs.declared.read.Number.the-variants.{Value, Bad}
 use Rattle.text.specs.declared.read.Closing.{Closing}
@@ -39,6 +40,15 @@ pub record Says (s : List ℕ) (g : Got ℕ) (r : Number) : Type 0 where
 -- a part that was read, with the comma behind it
 unfoldable pub withComma : Got ℕ → Got ℕ
 withComma g = followed g (λ n s. followed (comma s) (λ _. give n))
+
+-- how many bytes stand before the first quote or backslash
+unfoldable pub run : List ℕ → ℕ
+run [] = 0
+run (b ∷ s) = if eqb b quote || eqb b backslash then 0 else suc (run s)
+
+-- the place of the first quote or backslash from a place on, or else the end; past the end the place itself
+unfoldable pub runEnd : List ℕ → ℕ → ℕ
+runEnd s at = at + run (from s at)
 
 -- where a string that is being read closes, and how many bytes it has then, with `len` of them read before
 unfoldable pub closing : List ℕ → ℕ → Got (List ℕ) → Closing

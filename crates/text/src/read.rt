@@ -5,7 +5,7 @@ ghost use Prim.Native.Nat.{_+_, _<_, _≤_};
 ghost use lib.ListN.{length};
 ghost use Rattle.paper.specs.Line.{digit, twoDigits, moreDigits, number, letter, plain, escaped, string};
 ghost use Rattle.paper.specs.Read.{font};
-ghost use Rattle.text.specs.Place.{byteAt, from, said, Says, withComma, closing, quotedAt};
+ghost use Rattle.text.specs.Place.{byteAt, from, said, Says, withComma, runEnd, closing, quotedAt};
 
 // The byte at a place, or 0 past the end.
 pub fn byte_at(s: &[u8], at: usize) -> u8
@@ -138,22 +138,38 @@ pub enum Closing {
     Open,
 }
 
+// The place of the first quote or backslash from a place on, or else the end; past the end the place itself.
+fn run_end(s: &[u8], at: usize) -> usize
+    ensures { λ r. ⌜ r ≡ runEnd (now (s .entry)) at ⌝ }
+{
+    let mut i = at;
+    while i < s.len() {
+        let b = s[i];
+        if b == b'"' {
+            return i;
+        }
+        if b == b'\\' {
+            return i;
+        }
+        i += 1;
+    }
+    i
+}
+
 // The rest of a string in the plain mood, with `len` bytes of it read before.
 pub fn plain_at(s: &[u8], at: usize, len: usize) -> Closing
     requires { ⌜ len ≤ at ⌝ }
     ensures { λ r. ⌜ r ≡ closing (now (s .entry)) len (plain (from (now (s .entry)) at)) ⌝ }
 {
-    if s.len() <= at {
+    let end = run_end(s, at);
+    if s.len() <= end {
         return Closing::Open;
     }
-    let b = s[at];
-    if b == 34 {
-        return Closing::At { end: at, len };
+    let more = len + (end - at);
+    if s[end] == b'"' {
+        return Closing::At { end, len: more };
     }
-    if b == 92 {
-        return escaped_at(s, at + 1, len);
-    }
-    plain_at(s, at + 1, len + 1)
+    escaped_at(s, end + 1, more)
 }
 
 // The rest of a string just after a backslash, where the next byte is taken as it is.

@@ -36,8 +36,19 @@ pub fn put_decimal(buf: &mut [u8], at: usize, n: usize) -> usize
     if n < 10 {
         return put(buf, at, 48 + (n % 10) as u8);
     }
-    let next = put_decimal(buf, at, n / 10);
-    put(buf, next, 48 + (n % 10) as u8)
+    put_tens(buf, at, n)
+}
+
+// The digits of a number from 10 on.
+fn put_tens(buf: &mut [u8], at: usize, n: usize) -> usize
+    requires { ⌜ (10 ≤ n) × (at + length (decimal n) ≤ length (now buf)) ⌝ }
+    ensures { λ r. ⌜ Writes (now (buf .entry)) at (decimal n) (now (buf .exit)) r ⌝ }
+{
+    if n < 100 {
+        return put_two(buf, at, n);
+    }
+    let next = put_tens(buf, at, n / 10);
+    put(buf, next, b'0' + (n % 10) as u8)
 }
 
 // A number of two digits.

@@ -51,9 +51,9 @@ use Rattle.bench.proofs.Bench as T
 use Rattle.bench.proofs.Bench.Laws as T′
 use Rattle.bench.proofs.Lending.{large, mutably, shared, OnLoan, lends-whole, lends-share, whole-again, share-again}
 use Rattle.bench.proofs.Apart.{Fields, Rest, takes-apart, puts-together}
-use Rattle.flow.proofs.run.run as callee
-use Rattle.flow.proofs.run.run.Symbol as callee-def
-use Rattle.flow.proofs.run.run.Met as callee-thm
+use Rattle.program.proofs.run as callee
+use Rattle.program.proofs.run.Symbol as callee-def
+use Rattle.program.proofs.run.Met as callee-thm
 use Rattle.bench.proofs.Bench.run as this
 use Rattle.bench.proofs.Bench.run.Key as key
 use Rattle.bench.proofs.Bench.run.Statement as to-show
@@ -233,4 +233,4 @@ unfolding tablesOf code.routine
 run-spec 𝓤 H 𝓜 𝓖 𝓡 =
     let 𝓣 : MachineTables 𝓤 H 𝓜 = tables 𝓤 H 𝓜 𝓡 code.env in
     entered 𝓤 H (tripleOf 𝓤 H (𝓖 .A) this.signature (this.spec 𝓤 H (𝓖 .A) (𝓜 .mem) (𝓡 .run))) (𝓣 .C) (𝓣 .Λ) key.name code.function (code.unfolded 𝓤 H 𝓜 𝓡)
-    (meets 𝓤 H (𝓖 .A) (𝓜 .mem) (𝓡 .run) (givenOf 𝓤 H 𝓜 𝓖) (tablesOf 𝓤 H 𝓜 𝓣) (cited 𝓤 H (Callee 𝓤 H (𝓖 .A) (𝓜 .mem) (𝓡 .run)) 𝓜 𝓡 code.env callee-def.name callee-def.routine code.calls-flow·run·run (callee-thm.met 𝓤 H 𝓜 𝓖 𝓡)))
+    (meets 𝓤 H (𝓖 .A) (𝓜 .mem) (𝓡 .run) (givenOf 𝓤 H 𝓜 𝓖) (tablesOf 𝓤 H 𝓜 𝓣) (cited 𝓤 H (Callee 𝓤 H (𝓖 .A) (𝓜 .mem) (𝓡 .run)) 𝓜 𝓡 code.env callee-def.name callee-def.routine code.calls-program·run (callee-thm.met 𝓤 H 𝓜 𝓖 𝓡)))

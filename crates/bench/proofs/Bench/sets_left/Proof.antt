@@ -51,9 +51,9 @@ use Rattle.bench.proofs.Bench as T
 use Rattle.bench.proofs.Bench.Laws as T′
 use Rattle.bench.proofs.Lending.{large, mutably, shared, OnLoan, lends-whole, lends-share, whole-again, share-again}
 use Rattle.bench.proofs.Apart.{Fields, Rest, takes-apart, puts-together}
-use Rattle.session.proofs.call.sets_left as callee
-use Rattle.session.proofs.call.sets_left.Symbol as callee-def
-use Rattle.session.proofs.call.sets_left.Met as callee-thm
+use Rattle.call.proofs.sets_left as callee
+use Rattle.call.proofs.sets_left.Symbol as callee-def
+use Rattle.call.proofs.sets_left.Met as callee-thm
 use Rattle.bench.proofs.Bench.sets_left as this
 use Rattle.bench.proofs.Bench.sets_left.Key as key
 use Rattle.bench.proofs.Bench.sets_left.Statement as to-show
@@ -212,4 +212,4 @@ unfolding tablesOf code.routine
 sets-left-spec 𝓤 H 𝓜 𝓖 𝓡 =
     let 𝓣 : MachineTables 𝓤 H 𝓜 = tables 𝓤 H 𝓜 𝓡 code.env in
     entered 𝓤 H (tripleOf 𝓤 H (𝓖 .A) this.signature (this.spec 𝓤 H (𝓖 .A) (𝓜 .mem) (𝓡 .run))) (𝓣 .C) (𝓣 .Λ) key.name code.function (code.unfolded 𝓤 H 𝓜 𝓡)
-    (meets 𝓤 H (𝓖 .A) (𝓜 .mem) (𝓡 .run) (givenOf 𝓤 H 𝓜 𝓖) (tablesOf 𝓤 H 𝓜 𝓣) (cited 𝓤 H (Callee 𝓤 H (𝓖 .A) (𝓜 .mem) (𝓡 .run)) 𝓜 𝓡 code.env callee-def.name callee-def.routine code.calls-session·call·sets-left (callee-thm.met 𝓤 H 𝓜 𝓖 𝓡)))
+    (meets 𝓤 H (𝓖 .A) (𝓜 .mem) (𝓡 .run) (givenOf 𝓤 H 𝓜 𝓖) (tablesOf 𝓤 H 𝓜 𝓣) (cited 𝓤 H (Callee 𝓤 H (𝓖 .A) (𝓜 .mem) (𝓡 .run)) 𝓜 𝓡 code.env callee-def.name callee-def.routine code.calls-call·sets-left (callee-thm.met 𝓤 H 𝓜 𝓖 𝓡)))

@@ -3,7 +3,7 @@ use Prim.Native.Nat.{_-_}
 use native.Mathlib.Omega.{arith}
 use lib.ListN.{length}
 use borrow.Author.Needs.{needs}
-use Rattle.session.specs.Call.{memoryOf}
+use Rattle.call.specs.Call.{memoryOf}
 use Rattle.drive.proofs.Playing.{Playing, playing-begins, playing-turns, ends-inside, behind-fits}
 use Rattle.drive.proofs.states.play.Statement.{statement}
 use Rattle.drive.proofs.states.play.Tie as tie

@@ -2,7 +2,7 @@
 use native.Mathlib.Omega.{arith}
 use mathlib.Core.Path.{_∙_}
 use lib.ListN.{length}
-use Rattle.session.specs.Call.{memoryOf}
+use Rattle.call.specs.Call.{memoryOf}
 use Rattle.flow.specs.Fill.{placeOf, weight, outFull, errFull}
 use Rattle.flow.proofs.Filling.{inside-within, filling-turns, fills-used, fills-full, Turning, turning-begins}
 use Rattle.flow.proofs.fill.fill.Statement.{statement}

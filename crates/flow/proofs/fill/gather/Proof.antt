@@ -11,4 +11,4 @@ gather-spec =
     (λ c. gathers-none _ _ _ (search needs))
     (λ c κs. search needs)
     (λ c. search needs)
-    (λ c. gathers-some _ _ _ _ _ (c .before .before .before .before .before .before .before .pre) (c .before .before .put-kept .ensures)))
+    (λ c. gathers-some _ _ _ _ _ (search needs) (c .before .before .before .before .before .before .before .pre) (c .before .before .put-kept .ensures)))

@@ -7,7 +7,7 @@ use Rattle.flow.proofs.fill.step.Statement.{statement}
 use Rattle.flow.proofs.fill.step.Tie as tie
 
 step-take-requires : tie.Need-step-take-requires
-step-take-requires c κs = let pre = c .before .before .before .before .before .before .before .before .before .before .before .before .before .before .before .before .before .before .before .before .before .before .before .before .before .before .before .before .before .before .before .before .pre in (pre .0, (pre .1, c .before .before .before .before .before .before .before .before .before .before .before .before .before .before .if1 .taken))
+step-take-requires c κs = let pre = c .before .before .before .before .before .before .before .before .before .before .before .before .before .before .before .before .before .before .before .before .before .before .before .before .before .before .before .before .before .before .before .before .pre in (pre .0, (pre .1, omega (arith, c .before .before .before .before .before .before .before .before .before .before .before .before .before .before .if1 .taken)))
 
 same-length : tie.Need-same-length
 same-length c = refl

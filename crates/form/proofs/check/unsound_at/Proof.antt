@@ -27,17 +27,17 @@ loop-holds c = check-begins _ _ agrees-none
 line-end-requires : tie.Need-line-end-requires Inv-loop μ-loop
 line-end-requires c κs = search needs
 
-sub-read-line : tie.Need-sub-read-line Inv-loop μ-loop
-sub-read-line c = inside c .begins
+slice-aggregate-check-line : tie.Need-slice-aggregate-check-line Inv-loop μ-loop
+slice-aggregate-check-line c = let whole = c .before .before .before .loop .inv .whole in search needs
 
-part-read-line-start : tie.Need-part-read-line-start Inv-loop μ-loop
-part-read-line-start c = let h = inside c in search needs
+sub-check-line : tie.Need-sub-check-line Inv-loop μ-loop
+sub-check-line c = inside (c .before) .begins
 
-part-read-line-end : tie.Need-part-read-line-end Inv-loop μ-loop
-part-read-line-end c = let h = inside c in search needs
+part-check-line-start : tie.Need-part-check-line-start Inv-loop μ-loop
+part-check-line-start c = let h = inside (c .before) in search needs
 
-read-line-requires : tie.Need-read-line-requires Inv-loop μ-loop
-read-line-requires c κs = search needs
+part-check-line-end : tie.Need-part-check-line-end Inv-loop μ-loop
+part-check-line-end c = let h = inside (c .before) in search needs
 
 check-line-requires : tie.Need-check-line-requires Inv-loop μ-loop
 check-line-requires c κs = search needs
@@ -47,16 +47,18 @@ add-result c = omega arith
 
 returns : tie.Need-returns Inv-loop μ-loop
 unfolding partOf
-returns c = search (check-breaks, not-true)
+returns c =
+    let turn = c .before .before .before .before .before in
+    check-breaks _ _ _ _ _ _ _ (turn .before .before .loop .inv) (search needs) (turn .line-end .ensures) (c .before .before .check-line .ensures .0) (search not-true)
 
 add-k : tie.Need-add-k Inv-loop μ-loop
 add-k c = omega arith
 
 add-at : tie.Need-add-at Inv-loop μ-loop
-add-at c = let h = inside (c .before .before .before .before .before .before) in omega arith
+add-at c = let h = inside (c .before .before .before .before .before) in omega arith
 
 loop-less : tie.Need-loop-less Inv-loop μ-loop
-loop-less c = let h = inside (c .before .before .before .before .before .before) in omega arith
+loop-less c = let h = inside (c .before .before .before .before .before) in omega arith
 
 loop-again : tie.Need-loop-again Inv-loop μ-loop
 unfolding partOf
@@ -79,10 +81,10 @@ unsound-at-spec =
     μ-loop
     loop-holds
     line-end-requires
-    sub-read-line
-    part-read-line-start
-    part-read-line-end
-    read-line-requires
+    slice-aggregate-check-line
+    sub-check-line
+    part-check-line-start
+    part-check-line-end
     check-line-requires
     add-result
     returns

@@ -1,17 +1,19 @@
--- `plain_at` and `escaped_at` answer where the paper's two moods close, one law for each return. Each call is one place on, so what is left of the line falls.
+-- `plain_at` and `escaped_at` answer where the paper's two moods close, one law for each return. The plain mood goes on where its run ends, and each call is behind the last, so what is left of the line falls.
 use Prim.Native.Nat.{ℕ, _-_, _<_}
 use native.Mathlib.Omega.{arith}
 use lib.ListN.{length}
 use borrow.Author.Needs.{needs}
 use borrow.Fn.Kinds.{In}
 use borrow.Fn.PlainCycle.{Measures, is, falls, and}
-use Rattle.text.proofs.Quote.{plain-open, plain-shut, plain-turns, plain-goes, escaped-open, escaped-goes}
+use Rattle.text.specs.Place.{runEnd}
+use Rattle.text.proofs.Quote.{plain-run, plain-open, plain-shut, plain-turns, run-turns, escaped-open, escaped-goes}
 use Rattle.text.proofs.read.escaped_at.Reads as escaped-at
 use Rattle.text.proofs.read.escaped_at.Kinds as escaped-at-kinds
 use Rattle.text.proofs.read.+escaped_at+plain_at.Lts-escaped_at as escaped-at-lts
 use Rattle.text.proofs.read.plain_at.Reads as plain-at
 use Rattle.text.proofs.read.plain_at.Kinds as plain-at-kinds
 use Rattle.text.proofs.read.+escaped_at+plain_at.Lts-plain_at as plain-at-lts
+use Rattle.text.proofs.read.run_end.Reads as run-end-reads
 use Rattle.text.proofs.read.+escaped_at+plain_at.{statement}
 use Rattle.text.proofs.read.+escaped_at+plain_at.Tie.{close}
 
@@ -37,6 +39,7 @@ plain-at-below t =
     and 1 plain-at-kinds.ps (falls 1 plain-at-kinds.ps _<_ μ-plain-at t) plain-at.Pre
 
 pub +escaped-at+plain-at-spec : {M : Type 1} → statement M
+unfolding runEnd
 +escaped-at+plain-at-spec = close μ-escaped-at μ-plain-at (λ t. escaped-at-lts.spec (
   plain-at-below t,
   plain-at.Post,
@@ -49,16 +52,15 @@ pub +escaped-at+plain-at-spec : {M : Type 1} → statement M
     (λ c κs. omega arith)
     (λ c. search (needs, escaped-goes)))
     λ t. plain-at-lts.spec
-    (escaped-at-below t, escaped-at.Post, plain-at-below t, plain-at.Post)
+    (run-end-reads.Asked, run-end-reads.Learnt, escaped-at-below t, escaped-at.Post)
     (plain-at-at t)
     plain-at.Post
-    (λ c. search (needs, plain-open))
+    (λ c κs. search needs)
+    (λ c. search (needs, plain-run, plain-open))
     (λ c. omega arith)
-    (λ c. search (needs, plain-shut))
+    (λ c. omega arith)
+    (λ c. omega arith)
+    (λ c. search (needs, plain-run, plain-shut))
     (λ c. omega arith)
     (λ c κs. omega arith)
-    (λ c. search (needs, plain-turns))
-    (λ c. omega arith)
-    (λ c. omega arith)
-    (λ c κs. omega arith)
-    (λ c. search (needs, plain-goes))
+    (λ c. search (needs, plain-run, plain-turns, run-turns))

@@ -1,0 +1,4 @@
+pub mod Laid
+pub mod Calling
+pub mod Leading
+pub mod Demand

@@ -1,0 +1,122 @@
+-- The memory of a bench, and what a call promises from memory that calls lead to.
+use Prim.Native.Nat.{ℕ}
+use mathlib.Core.Path.{_≡_}
+use mathlib.Core.List.{List, [], _∷_}
+use lib.ListN.{length}
+use lib.Dec.{eqb}
+use Rattle.paper.specs.Byte.{if_then_else_}
+use Rattle.paper.specs.Bench as P
+use Rattle.paper.specs.Line.{kept}
+use Rattle.paper.specs.State.{Led}
+use Rattle.paper.specs.Program.{toTake}
+use Rattle.command.specs.View.{width}
+use Rattle.command.specs.Answer.{Meets}
+use Rattle.command.specs.declared.Answer.{Answer}
+use Rattle.store.specs.Packed.{Store}
+use Rattle.session.specs.Memory.{Session, Shelf, packedSession, packedShelf, Opens}
+use Rattle.session.specs.Outcome.{afterLine}
+use Rattle.session.specs.declared.state.Mode.{Mode}
+use Rattle.session.specs.declared.state.Mode.the-variants as M
+use Rattle.session.specs.declared.state.Held.{Held}
+use Rattle.call.specs.declared.numbers.Code.{Code}
+
+-- a state in four numbers
+unfoldable pub codeOf : Mode → Code
+codeOf M.Idle = record { tag = 0; a = 0; b = 0; c = 0 }
+codeOf (M.Collecting lines) = record { tag = 1; a = lines; b = 0; c = 0 }
+codeOf M.Spoiled = record { tag = 2; a = 0; b = 0; c = 0 }
+codeOf M.Opened = record { tag = 3; a = 0; b = 0; c = 0 }
+codeOf (M.Answering k) = record { tag = 4; a = k; b = 0; c = 0 }
+codeOf M.Ready = record { tag = 5; a = 0; b = 0; c = 0 }
+codeOf (M.Printing sets copies out) = record { tag = 6; a = sets; b = copies; c = out }
+
+-- and the state of four numbers
+unfoldable pub modeOf : (tag a b c : ℕ) → Mode
+modeOf tag a b c =
+    if eqb tag 1 then M.Collecting a
+    else if eqb tag 2 then M.Spoiled
+    else if eqb tag 3 then M.Opened
+    else if eqb tag 4 then M.Answering a
+    else if eqb tag 5 then M.Ready
+    else if eqb tag 6 then M.Printing a b c
+    else M.Idle
+
+-- the numbers of a session
+unfoldable pub heldIn : Held → List ℕ
+heldIn h =
+    let code = codeOf (h .mode) in
+    code .tag ∷ code .a ∷ code .b ∷ code .c ∷ h .form ∷ h .start ∷ h .size ∷ h .len ∷ h .drafted ∷ h .given ∷ []
+
+-- and those of the store
+unfoldable pub filedIn : Store → List ℕ
+filedIn s = s .used ∷ s .count ∷ []
+
+-- the memory of a bench: the forms' texts and names, the lengths of both, their plans and the store's numbers; the draft's name and text,
+-- the answers, what they are worth, and the session's numbers
+pub record Memory : Type 0 where
+  pub all : List ℕ
+  pub names : List ℕ
+  pub texts : List ℕ
+  pub lens : List ℕ
+  pub plans : List ℕ
+  pub filed : List ℕ
+  pub name : List ℕ
+  pub text : List ℕ
+  pub answers : List ℕ
+  pub values : List ℕ
+  pub held : List ℕ
+
+-- the memory that the slices are
+abbrev pub memoryOf : (all names texts lens plans filed name text answers values held : List ℕ) → Memory
+memoryOf all names texts lens plans filed name text answers values held =
+    record { all = all; names = names; texts = texts; lens = lens; plans = plans; filed = filed; name = name; text = text; answers = answers; values = values; held = held }
+
+-- a shelf and a session in memory
+unfoldable pub laid : Shelf → Session → Memory
+laid t s =
+    record {
+      all = t .store .text;
+      names = t .store .names;
+      texts = t .store .texts;
+      lens = t .store .lens;
+      plans = t .plans;
+      filed = filedIn (t .store);
+      name = s .name;
+      text = s .text;
+      answers = s .answers;
+      values = s .values;
+      held = heldIn (s .held);
+    }
+
+-- the memory of the paper's bench, with form n held open
+unfoldable pub packedBench : P.Bench → ℕ → Memory
+packedBench b n = laid (packedShelf (b .forms)) (packedSession (b .forms) n (b .session))
+
+-- memory that calls lead to
+pub record Reached (self : Memory) : Type 0 where
+  pub paper : P.Bench
+  pub number : ℕ
+  pub led : Led width paper
+  pub opens : Opens (paper .forms) number (paper .session)
+  pub is : self ≡ packedBench paper number
+
+-- `new`: the memory of a bench that has just begun, whatever number is held
+pub record Begins (self : Memory) : Type 0 where
+  pub reached : Reached self
+  pub is : (n : ℕ) → self ≡ packedBench P.begin n
+
+-- `hear`: the paper's answer with the lent buffer, and the memory of the bench that it leaves
+pub record HearsLine (self : Memory) (s old : List ℕ) (next : Memory) (new : List ℕ) (r : Answer) : Type 0 where
+  pub reached : Reached next
+  pub meets : (k : Reached self) → Meets (P.hear width (length old) (k .paper) s .answer) old new r
+  pub leaves : (k : Reached self) → next ≡ packedBench (P.hear width (length old) (k .paper) s .next) (afterLine (k .number) (k .paper .forms) (k .paper .session) (kept s))
+
+-- `take`: the same of a set
+pub record TakesSet (self : Memory) (old : List ℕ) (next : Memory) (new : List ℕ) (r : Answer) : Type 0 where
+  pub reached : Reached next
+  pub meets : (k : Reached self) → Meets (P.takeSet (length old) (k .paper) .answer) old new r
+  pub leaves : (k : Reached self) → next ≡ packedBench (P.takeSet (length old) (k .paper) .next) (k .number)
+
+-- `sets_left`: the sets that are left to be taken
+pub record SetsLeft (self : Memory) (r : ℕ) : Type 0 where
+  pub is : (k : Reached self) → r ≡ toTake (k .paper .session)

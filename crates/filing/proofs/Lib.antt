@@ -1,0 +1,5 @@
+pub mod Plotted
+pub mod Collecting
+pub mod Finding
+pub mod Clearing
+pub mod Filing

@@ -1,0 +1,4 @@
+// A line to one session, in every state.
+pub mod any;
+pub mod obey;
+pub mod wait;

@@ -1,0 +1,3 @@
+pub mod Standing
+pub mod Printed
+pub mod Answering

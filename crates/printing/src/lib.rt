@@ -1,0 +1,3 @@
+// The labels: answers are asked for and given, and sets are printed.
+pub mod answer;
+pub mod print;

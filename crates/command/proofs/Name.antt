@@ -24,9 +24,8 @@ text-starts s i end h l =
     elim (decLt i end) [ yes k ↦ k | no k ↦ absurd (let none = closes-ends s i end h (omega arith) in let l′ = rw none at l in omega arith) ]
 
 -- what the answer about a name's byte says of the byte in the line
-pub name-byte : (s : List ℕ) (r b : ℕ) (t u : Bool) → b ≡ byteAt s r → t ≡ isNameByte b → t ≡ u → isNameByte (getD s r 0) ≡ u
-unfolding byteAt
-name-byte s r b t u p q e = rw (← p, ← q) e
+pub name-byte : (s : List ℕ) (r : ℕ) (t u : Bool) → t ≡ isNameByte (getD s r 0) → t ≡ u → isNameByte (getD s r 0) ≡ u
+name-byte s r t u q e = sym q ∙ e
 
 -- a name without a byte
 pub name-empty : (s : List ℕ) (name : Span) → Holds s name → name .len < 1 → false ≡ isName (textIn s name)

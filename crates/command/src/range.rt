@@ -273,7 +273,8 @@ pub fn name_in(s: &[u8], name: Span) -> bool
     let mut i = name.start;
     while i < end {
         let literal = literal_at(s, i);
-        if !name_byte(byte_at(s, literal)) {
+        let b = s[literal];
+        if !name_byte(b) {
             return false;
         }
         i = literal + 1;

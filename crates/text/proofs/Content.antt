@@ -6,7 +6,7 @@ use mathlib.Core.List.{List, [], _∷_, _++_}
 use Prim.Native.Nat.{ℕ, suc, _+_, _-_, _≤_, _<_}
 use native.Mathlib.Omega.{arith}
 use native.Mathlib.Numerals.{add-one}
-use lib.ListN.{length, drop, getD, drop-of-length-le}
+use lib.ListN.{length, drop, getD, drop-of-length-le, length-append}
 use lib.Seq.{drop-cons}
 use lib.Dec.{eqb}
 use native.Mathlib.Decide.{ℕ-discrete}
@@ -14,8 +14,8 @@ use borrow.Author.Tests.{ne-eqb}
 use Rattle.paper.specs.Byte.{if_then_else_}
 use Rattle.paper.specs.Line.{Got, got, bad, followed, give, within, plain, quote, backslash, escape}
 use Rattle.text.specs.Place.{byteAt, from, textAt, contentOf, Closes, literal}
-use Rattle.text.specs.Write.{Writes}
-use Rattle.text.proofs.Written.{writes-then}
+use Rattle.text.specs.Write.{Writes, markOf}
+use Rattle.text.proofs.Written.{writes-none, writes-length, writes-then}
 use Rattle.text.proofs.Quote.{Ends, leaves, length-from, plain-quote, plain-backslash, plain-other, escaped-other}
 
 -- escaping one text behind another
@@ -28,20 +28,32 @@ escape-append (b ∷ x) y = go (eqb b quote || eqb b backslash) (escape-append x
     go true e = rw e
     go false e = rw e
 
--- a quote is written with a backslash before it
-pub escape-quote : (b : ℕ) → b ≡ 34 → escape (b ∷ []) ≡ (92 ∷ []) ++ (b ∷ [])
-unfolding escape if_then_else_
-escape-quote b e = rw e
+-- a byte is escaped by what goes before it
+pub escape-marked : (b : ℕ) → escape (b ∷ []) ≡ markOf b ++ (b ∷ [])
+unfolding escape markOf if_then_else_
+escape-marked b = go (eqb b quote || eqb b backslash)
+  where
+    go : (t : Bool) → (if t then (backslash ∷ b ∷ []) else (b ∷ [])) ≡ (if t then (backslash ∷ []) else []) ++ (b ∷ [])
+    go true = refl
+    go false = refl
 
--- and so is a backslash
-pub escape-backslash : (b : ℕ) → b ≡ 92 → escape (b ∷ []) ≡ (92 ∷ []) ++ (b ∷ [])
-unfolding escape if_then_else_
-escape-backslash b e = rw e
+pub escape-length : (b : ℕ) → length (escape (b ∷ [])) ≡ length (markOf b) + 1
+escape-length b = rw (escape-marked b) (length-append (markOf b) (b ∷ []))
 
--- any other byte is written as it is
-pub escape-other : (b : ℕ) → (b ≡ 34 → ⊥) → (b ≡ 92 → ⊥) → escape (b ∷ []) ≡ b ∷ []
-unfolding escape if_then_else_
-escape-other b q k = rw (escape, ne-eqb b 34 q, ne-eqb b 92 k)
+-- a backslash goes before a quote
+pub mark-quote : (b : ℕ) → b ≡ 34 → markOf b ≡ 92 ∷ []
+unfolding markOf if_then_else_
+mark-quote b e = rw e
+
+-- and before a backslash
+pub mark-backslash : (b : ℕ) → b ≡ 92 → markOf b ≡ 92 ∷ []
+unfolding markOf if_then_else_
+mark-backslash b e = rw e
+
+-- and nothing before any other byte
+pub mark-other : (b : ℕ) → (b ≡ 34 → ⊥) → (b ≡ 92 → ⊥) → markOf b ≡ []
+unfolding markOf if_then_else_
+mark-other b q k = rw (markOf, ne-eqb b 34 q, ne-eqb b 92 k)
 
 -- the code's answer at a backslash: the literal byte is the next
 pub literal-next : (s : List ℕ) (at : ℕ) → getD s at 0 ≡ 92 → at + 1 ≡ literal s at
@@ -138,14 +150,22 @@ pub escape-past : (s : List ℕ) (i : ℕ) → length s ≤ i → escape (drop i
 unfolding escape
 escape-past s i h = rw (drop-of-length-le s {i = i} h)
 
--- the code's answer for a quote: a backslash and the byte
-pub put-quote : (old : List ℕ) (at : ℕ) (mid : List ℕ) (place : ℕ) (new : List ℕ) (next b : ℕ) → b ≡ 34 → Writes old at (92 ∷ []) mid place → Writes mid place (b ∷ []) new next → Writes old at (escape (b ∷ [])) new next
-put-quote old at mid place new next b e p q = rw (escape-quote b e) (writes-then old at _ mid place _ new next p q)
+-- the code's answers: before a quote a backslash
+pub put-quote : (old : List ℕ) (at : ℕ) (new : List ℕ) (next b : ℕ) → b ≡ 34 → Writes old at (92 ∷ []) new next → Writes old at (markOf b) new next
+put-quote old at new next b e w = rw (mark-quote b e) w
 
--- for a backslash the same
-pub put-backslash : (old : List ℕ) (at : ℕ) (mid : List ℕ) (place : ℕ) (new : List ℕ) (next b : ℕ) → b ≡ 92 → Writes old at (92 ∷ []) mid place → Writes mid place (b ∷ []) new next → Writes old at (escape (b ∷ [])) new next
-put-backslash old at mid place new next b e p q = rw (escape-backslash b e) (writes-then old at _ mid place _ new next p q)
+-- before a backslash the same
+pub put-backslash : (old : List ℕ) (at : ℕ) (new : List ℕ) (next b : ℕ) → b ≡ 92 → Writes old at (92 ∷ []) new next → Writes old at (markOf b) new next
+put-backslash old at new next b e w = rw (mark-backslash b e) w
 
--- and for any other byte the byte alone
-pub put-other : (old : List ℕ) (at : ℕ) (new : List ℕ) (next b : ℕ) → (b ≡ 34 → ⊥) → (b ≡ 92 → ⊥) → Writes old at (b ∷ []) new next → Writes old at (escape (b ∷ [])) new next
-put-other old at new next b q k w = rw (escape-other b q k) w
+-- before any other byte nothing
+pub put-unmarked : (old : List ℕ) (at b : ℕ) → (b ≡ 34 → ⊥) → (b ≡ 92 → ⊥) → at + length (markOf b) ≤ length old → Writes old at (markOf b) old at
+put-unmarked old at b q k l = rw (mark-other b q k) (writes-none old at (omega (arith, ap length (mark-other b q k))))
+
+-- and behind it there is room for the byte
+pub marked-room : (old : List ℕ) (at : ℕ) (mid : List ℕ) (place b : ℕ) → at + length (escape (b ∷ [])) ≤ length old → Writes old at (markOf b) mid place → place < length mid
+marked-room old at mid place b l w = omega (arith, l, w .ends, escape-length b, writes-length old at _ mid place w)
+
+-- which goes there
+pub put-marked : (old : List ℕ) (at : ℕ) (mid : List ℕ) (place : ℕ) (new : List ℕ) (next b : ℕ) → Writes old at (markOf b) mid place → Writes mid place (b ∷ []) new next → Writes old at (escape (b ∷ [])) new next
+put-marked old at mid place new next b p q = rw (escape-marked b) (writes-then old at _ mid place _ new next p q)

@@ -6,7 +6,7 @@ ghost use lib.ListN.{length};
 ghost use Rattle.paper.specs.Byte.{decimal};
 ghost use Rattle.paper.specs.Line.{escape};
 ghost use Rattle.paper.specs.Write.{two};
-ghost use Rattle.text.specs.Write.{Writes};
+ghost use Rattle.text.specs.Write.{Writes, markOf};
 ghost use Rattle.text.specs.Place.{textAt, Closes, literal};
 
 // One byte.
@@ -73,20 +73,27 @@ pub fn put_all(buf: &mut [u8], at: usize, s: &[u8]) -> usize
     at + i
 }
 
-// One byte of a string in normal form: a quote or a backslash has a backslash before it.
+// What goes before a byte of a string in normal form: a backslash where it is a quote or a backslash.
+fn put_mark(buf: &mut [u8], at: usize, b: u8) -> usize
+    requires { ⌜ at + length (markOf b) ≤ length (now buf) ⌝ }
+    ensures { λ r. ⌜ Writes (now (buf .entry)) at (markOf b) (now (buf .exit)) r ⌝ }
+{
+    if b == b'"' {
+        return put(buf, at, b'\\');
+    }
+    if b == b'\\' {
+        return put(buf, at, b'\\');
+    }
+    at
+}
+
+// One byte of a string in normal form.
 pub fn put_escaped_byte(buf: &mut [u8], at: usize, b: u8) -> usize
     requires { ⌜ at + length (escape (b ∷ [])) ≤ length (now buf) ⌝ }
     ensures { λ r. ⌜ Writes (now (buf .entry)) at (escape (b ∷ [])) (now (buf .exit)) r ⌝ }
 {
-    if b == 34 {
-        let next = put(buf, at, 92);
-        return put(buf, next, b);
-    }
-    if b == 92 {
-        let next = put(buf, at, 92);
-        return put(buf, next, b);
-    }
-    put(buf, at, b)
+    let next = put_mark(buf, at, b);
+    put(buf, next, b)
 }
 
 // A text as the inside of a string in normal form.

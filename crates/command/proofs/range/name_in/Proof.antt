@@ -35,8 +35,8 @@ loop-holds c = (refl, search needs)
 literal-at-requires : tie.Need-literal-at-requires Inv-loop μ-loop
 literal-at-requires c κs = omega arith
 
-byte-at-requires : tie.Need-byte-at-requires Inv-loop μ-loop
-byte-at-requires c κs = search needs
+shared-slice-read-b : tie.Need-shared-slice-read-b Inv-loop μ-loop
+shared-slice-read-b c = let s = step (c .before) in omega (arith, s .inside, c .before .before .before .loop .inv .1 .inside)
 
 name-byte-requires : tie.Need-name-byte-requires Inv-loop μ-loop
 name-byte-requires c κs = search needs
@@ -66,7 +66,7 @@ name-in-spec =
     returns-2
     loop-holds
     literal-at-requires
-    byte-at-requires
+    shared-slice-read-b
     name-byte-requires
     returns-3
     add-i

@@ -21,13 +21,13 @@ use Rattle.command.specs.Answer.{Meets}
 use Rattle.command.specs.declared.Answer.{Answer}
 use Rattle.command.specs.declared.Answer.the-variants as A
 use Rattle.command.specs.declared.Refusal.the-variants as W
-use Rattle.store.specs.Packed.{Store, findFrom}
+use Rattle.store.specs.Packed.{Store}
 use Rattle.store.specs.Lent.{Stocked, Finds, Lists}
 use Rattle.store.specs.declared.Filed.{Filed}
 use Rattle.store.specs.declared.Found.{Found}
 use Rattle.store.specs.declared.Found.the-variants as F
 use Rattle.set.specs.Answers.{answersText, valuesFrom, valuesIn}
-use Rattle.session.specs.Memory.{Session, Shelf, sessionOf, shelfOf, named, drafts, drafting, holds, holding, packedSession, placeOf, entriesOf, packedShelf, ifIdle, afterFiling, afterCommand}
+use Rattle.session.specs.Memory.{Session, Shelf, sessionOf, shelfOf, named, drafts, drafting, holds, holding, packedSession, placeOf, packedShelf, ifIdle, afterFiling, afterCommand}
 use Rattle.session.specs.Outcome.{At, Beside, Does, Heeds, Consults, Informs, Files, Refuses, obey, handed, Named, Starred, Removes, opensBy}
 use Rattle.session.specs.declared.name.Name.{Name}
 use Rattle.session.specs.declared.state.Mode.{Mode}
@@ -100,15 +100,16 @@ idle-is session shelf a t = seen 0 session (a .forms) (a .number) (a .state) (a 
 idle-here : (session : Session) (shelf : Shelf) (a : At session shelf) → Tagged (0 ∷ []) session → session ≡ packedSession (a .forms) (a .number) P.idle
 idle-here session shelf a t = a .here ∙ ap (packedSession (a .forms) (a .number)) (idle-is session shelf a t)
 
--- what is found under the name that stands in a line
-sought : (session : Session) (shelf : Shelf) (a : At session shelf) (s : List ℕ) (string : Span) (name : Name) (found : Found) → name ≡ named (textIn s string)
-    → Finds (shelf .store) (take (name .len) (name .bytes)) found → findFrom 0 0 (textIn s string) (entriesOf (a .forms)) ≡ found
-sought session shelf a s string name found e f = rw (name-bytes name (textIn s string) e) at (looked session shelf a _ found f)
+-- what is found under the copy of a name that stands in a line is found under the name
+pub copied-finds : (store : Store) (s : List ℕ) (string : Span) (name : Name) (found : Found) → name ≡ named (textIn s string) → Finds store (take (name .len) (name .bytes)) found
+    → Finds store (textIn s string) found
+copied-finds store s string name found e f = rw (name-bytes name (textIn s string) e) at f
 
-spotted : (session : Session) (shelf : Shelf) (a : At session shelf) (s : List ℕ) (string : Span) (name : Name) (found : Found) (index place len : ℕ) → name ≡ named (textIn s string)
-    → Finds (shelf .store) (take (name .len) (name .bytes)) found → found ≡ F.At index place len → Among (textIn s string) (a .forms) 0 0 index place len
-spotted session shelf a s string name found index place len e f q =
-    entries-found (textIn s string) (a .forms) 0 0 index place len (a .sane .forms .each) (sought session shelf a s string name found e f ∙ q)
+-- a form that is found under a name is one of those there
+spotted : (session : Session) (shelf : Shelf) (a : At session shelf) (text : List ℕ) (found : Found) (index place len : ℕ) → Finds (shelf .store) text found → found ≡ F.At index place len
+    → Among text (a .forms) 0 0 index place len
+spotted session shelf a text found index place len f q =
+    entries-found text (a .forms) 0 0 index place len (a .sane .forms .each) (looked session shelf a text found f ∙ q)
 
 -- `FS` of a name that is taken
 pub start-taken : (session : Session) (store : Store) (s : List ℕ) (string : Span) (name : Name) (found : Found) (index place len : ℕ) (turn : Turn) → Tagged (0 ∷ []) session
@@ -121,7 +122,7 @@ start-taken session store s string name found index place len turn t e f q r =
       consults = λ plans. record {
         heeds = λ b. record {
           obeys = λ a.
-              let w = spotted session _ a s string name found index place len e f q in
+              let w = spotted session _ a (textIn s string) found index place len (copied-finds store s string name found e f) q in
               rw (idle-is session _ a t, w .found) (does-refused W.NameTaken session _ (a .forms) (a .number) P.idle b (idle-here session _ a t) (a .there));
         };
       };
@@ -164,7 +165,7 @@ start-begins session store s string name found bytes end turn t h e f q w r =
       consults = λ plans. record {
         heeds = λ b. record {
           obeys = λ a.
-              let free = entries-absent (textIn s string) (a .forms) 0 0 (sought session _ a s string name found e f ∙ q) in
+              let free = entries-absent (textIn s string) (a .forms) 0 0 (looked session _ a (textIn s string) found (copied-finds store s string name found e f) ∙ q) in
               let next = begun session name (textIn s string) bytes end (idle-here session _ a t) e (named-short s string h) w in
               rw (idle-is session _ a t, free) (does-done _ _ (a .forms) (a .number) (P.collecting (textIn s string) []) b next (a .there));
         };
@@ -208,10 +209,10 @@ informs session store old mid n reply new answer t p m =
     }
 
 -- a form that is found for `FR` is one of eight
-pub recall-few : (session : Session) (shelf : Shelf) (s : List ℕ) (string : Span) (name : Name) (found : Found) (index place len : ℕ) → At session shelf → name ≡ named (textIn s string)
-    → Finds (shelf .store) (take (name .len) (name .bytes)) found → found ≡ F.At index place len → index < 8
-recall-few session shelf s string name found index place len a e f q =
-    let w = spotted session shelf a s string name found index place len e f q in
+pub recall-few : (session : Session) (shelf : Shelf) (text : List ℕ) (found : Found) (index place len : ℕ) → At session shelf → Finds (shelf .store) text found → found ≡ F.At index place len
+    → index < 8
+recall-few session shelf text found index place len a f q =
+    let w = spotted session shelf a text found index place len f q in
     omega (arith, w .number, lies-before (a .forms) (length (w .before)) (w .here .lines) (w .lies), a .sane .forms .few)
 
 -- so its plan lies within theirs
@@ -262,17 +263,17 @@ opened-is session fs n ls mode index place len e m i p l =
     is ∙ sym (opened-holds fs n ls (asked ls))
 
 -- `FR` of it
-pub recall-opens : (session : Session) (shelf : Shelf) (s : List ℕ) (string : Span) (name : Name) (found : Found) (index place len : ℕ) (mode : Mode) (turn : Turn) → Tagged (0 ∷ []) session
-    → name ≡ named (textIn s string) → Finds (shelf .store) (take (name .len) (name .bytes)) found → found ≡ F.At index place len → mode ≡ opensBy (getD (shelf .plans) (index * 232) 0)
+pub recall-opens : (session : Session) (shelf : Shelf) (text : List ℕ) (found : Found) (index place len : ℕ) (mode : Mode) (turn : Turn) → Tagged (0 ∷ []) session
+    → Finds (shelf .store) text found → found ≡ F.At index place len → mode ≡ opensBy (getD (shelf .plans) (index * 232) 0)
     → turn ≡ record { answer = A.Accepted 0; held = record { mode = mode; form = index; start = place; size = len; len = session .held .len; drafted = session .held .drafted; given = session .held .given } }
-    → Heeds session shelf (file (recall (textIn s string))) (turn .answer) (sessionOf (turn .held) (session .name) (session .text) (session .answers) (session .values))
+    → Heeds session shelf (file (recall text)) (turn .answer) (sessionOf (turn .held) (session .name) (session .text) (session .answers) (session .values))
 unfolding obey P.inIdle P.filed P.recalled afterCommand afterFiling ifIdle packedShelf packedSession
-recall-opens session shelf s string name found index place len mode turn t e f q m r =
+recall-opens session shelf text found index place len mode turn t f q m r =
     rw r
     (record {
       heeds = λ b. record {
         obeys = λ a.
-            let w = spotted session shelf a s string name found index place len e f q in
+            let w = spotted session shelf a text found index place len f q in
             let n = length (w .before) in
             let number : index ≡ n = omega (arith, w .number) in
             let first : getD (shelf .plans) (index * 232) 0 ≡ length (asked (w .here .lines)) =
@@ -283,16 +284,16 @@ recall-opens session shelf s string name found index place len mode turn t e f q
     })
 
 -- and of a name that is absent
-pub recall-absent : (session : Session) (shelf : Shelf) (s : List ℕ) (string : Span) (name : Name) (found : Found) (turn : Turn) → Tagged (0 ∷ []) session
-    → name ≡ named (textIn s string) → Finds (shelf .store) (take (name .len) (name .bytes)) found → found ≡ F.Absent → turn ≡ record { answer = A.Refused W.Absent; held = session .held }
-    → Heeds session shelf (file (recall (textIn s string))) (turn .answer) (sessionOf (turn .held) (session .name) (session .text) (session .answers) (session .values))
+pub recall-absent : (session : Session) (shelf : Shelf) (text : List ℕ) (found : Found) (turn : Turn) → Tagged (0 ∷ []) session
+    → Finds (shelf .store) text found → found ≡ F.Absent → turn ≡ record { answer = A.Refused W.Absent; held = session .held }
+    → Heeds session shelf (file (recall text)) (turn .answer) (sessionOf (turn .held) (session .name) (session .text) (session .answers) (session .values))
 unfolding obey P.inIdle P.filed P.recalled P.refuse P.afterRefusal refusalOf afterCommand afterFiling ifIdle packedSession
-recall-absent session shelf s string name found turn t e f q r =
+recall-absent session shelf text found turn t f q r =
     rw r
     (record {
       heeds = λ b. record {
         obeys = λ a.
-            let free = entries-absent (textIn s string) (a .forms) 0 0 (sought session shelf a s string name found e f ∙ q) in
+            let free = entries-absent text (a .forms) 0 0 (looked session shelf a text found f ∙ q) in
             rw (idle-is session shelf a t, free) (does-refused W.Absent session shelf (a .forms) _ P.idle b (idle-here session shelf a t) (a .there));
       };
     })

@@ -3,3 +3,4 @@ pub mod Collecting
 pub mod Finding
 pub mod Clearing
 pub mod Filing
+pub mod Bare

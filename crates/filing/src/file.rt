@@ -3,7 +3,7 @@ ghost use mathlib.Core.Path.{_≡_};
 ghost use Rattle.paper.specs.Command as C;
 ghost use Rattle.command.specs.View.{textIn};
 ghost use Rattle.session.specs.Memory.{sessionOf, shelfOf};
-ghost use Rattle.store.specs.Lent.{storeOf};
+ghost use Rattle.store.specs.Lent.{storeOf, Stocked, Finds};
 ghost use Rattle.session.specs.Outcome.{At, Beside, Named, Starred, Consults, Informs, Heeds, Files, opensBy};
 use crate::shelf::delete_named;
 use command::Answer;
@@ -124,10 +124,7 @@ pub fn recall(
     let Mode::Idle = mode else {
         return refuse(Refusal::NotNow, held, name, text, answers, values);
     };
-    let n = name_of(s, string);
-    let len = n.len;
-    let bytes = n.bytes;
-    match find(filed, all, names, texts, lens, &bytes[..len]) {
+    match find_string(filed, all, names, texts, lens, s, string) {
         Found::At {
             index,
             start,
@@ -143,6 +140,31 @@ pub fn recall(
         }),
         Found::Absent => kept(Refusal::Absent, held),
     }
+}
+
+// The form whose name stands in a line: looked for where it lies if it has no escape, and else unescaped.
+fn find_string(
+    filed: Filed,
+    all: &[u8],
+    names: &[u8],
+    texts: &[usize],
+    lens: &[usize],
+    s: &[u8],
+    string: Span,
+) -> Found
+    requires { ⌜ Stocked (storeOf filed (now all) (now names) (now texts) (now lens)) ⌝ }
+    requires { ⌜ Named (now s) string ⌝ }
+    ensures { λ r. ⌜ Finds (storeOf filed (now (all .entry)) (now (names .entry)) (now (texts .entry)) (now (lens .entry))) (textIn (now (s .entry)) string) r ⌝ }
+{
+    let start = string.start;
+    let end = string.end;
+    if end - start == string.len {
+        return find(filed, all, names, texts, lens, &s[start..end]);
+    }
+    let n = name_of(s, string);
+    let len = n.len;
+    let bytes = n.bytes;
+    find(filed, all, names, texts, lens, &bytes[..len])
 }
 
 // The state of a form that was found, by the definitions in its plan.

@@ -1,24 +1,37 @@
 -- A line that was gathered, or that lies in the input, is heard as all that came of it.
-use Prim.Native.Nat.{ℕ, _+_, _*_, _^_, _<_}
+use Prim.Native.Nat.{ℕ, _+_, _-_, _*_, _^_, _<_}
 use mathlib.Core.Path.{_≡_, refl, sym, _∙_, ap}
+use mathlib.Core.Bool.{Bool, true, false}
 use mathlib.Core.List.{List, [], _∷_, _++_}
 use native.Mathlib.Omega.{arith}
-use lib.ListN.{take, length-take}
+use lib.ListN.{length, take, drop, length-take}
+use lib.Seq.{drop-drop}
 use lib.Dec.{eqb}
 use mir.Syntax.{w64}
 use mir.Val.{Fits}
 use borrow.Author.Tests.{eqb-true, eqb-false, eq-eqb, ne-eqb}
-use Rattle.paper.specs.Line.{kept}
+use Rattle.paper.specs.Byte.{if_then_else_, between, every}
+use Rattle.paper.specs.Command.{isShown}
+use Rattle.paper.specs.Line.{lf, kept}
 use Rattle.paper.specs.Bench as P
 use Rattle.paper.specs.Program.{enough}
 use Rattle.paper.proofs.Law.{if-true, if-false}
-use Rattle.paper.proofs.Test.{either}
+use Rattle.paper.proofs.Test.{either, clash}
 use Rattle.paper.proofs.Dropped.{kept-stays, stays-kept}
 use Rattle.paper.proofs.Long.{hear-first}
 use Rattle.command.specs.View.{width}
+use Rattle.text.specs.Place.{from}
+use Rattle.line.specs.Shown.{clearPart}
+use Rattle.line.proofs.Control.{clear-take, clear-shown}
+use Rattle.form.specs.Walk.{firstLine}
 use Rattle.listen.specs.Waiting.{Waits, Waiting, Comes}
-use Rattle.flow.specs.Fill.{Gathered, lineBy}
+use Rattle.flow.specs.Fill.{Clear, Gathered, lineBy}
 use Rattle.flow.proofs.Cutting.{kept-append}
+
+-- LF is not shown
+shown-inside : (b : ℕ) → isShown b ≡ true → eqb b lf ≡ false
+unfolding isShown between
+shown-inside b y = either (eqb b lf) (λ e. let is = eqb-true b lf e in clash (rw is at y) refl) (λ n. n)
 
 -- what is kept stays
 pub kept-twice : (s : List ℕ) → kept (kept s) ≡ kept s
@@ -73,6 +86,37 @@ line-rest len rest gathered e = sym (if-true _ _ _ (eq-eqb len 0 e))
 pub line-gathered : (len : ℕ) (rest gathered : List ℕ) → (len ≡ 0 → ⊥) → gathered ≡ lineBy len rest gathered
 unfolding lineBy
 line-gathered len rest gathered e = sym (if-false _ _ _ (ne-eqb len 0 e))
+
+-- a line that is known to be clear is
+pub line-shown : (len : ℕ) (rest gathered said : List ℕ) (shown : Bool) → said ≡ lineBy len rest gathered → (shown ≡ true → (len ≡ 0) × (every isShown rest ≡ true)) → shown ≡ true → every isShown said ≡ true
+line-shown len rest gathered said shown e c y = let z = c y in rw (e ∙ sym (line-rest len rest gathered (z .0))) (z .1)
+
+-- the first line is its clear part, and what is left of it behind that
+first-clear : (s : List ℕ) → length (firstLine s) ≡ length (clearPart s) + length (firstLine (drop (length (clearPart s)) s))
+unfolding firstLine clearPart
+first-clear [] = refl
+first-clear (b ∷ s) =
+    either (isShown b)
+    (λ y.
+    let more = first-clear s in
+    let line : firstLine (b ∷ s) ≡ b ∷ firstLine s = if-false (eqb b lf) _ _ (shown-inside b y) in
+    let part : clearPart (b ∷ s) ≡ b ∷ clearPart s = if-true (isShown b) _ _ y in
+    rw (line, part) (omega arith))
+    (λ n. let none : clearPart (b ∷ s) ≡ [] = if-false (isShown b) _ _ n in rw none (omega arith))
+
+-- so its end is found from there on
+pub clear-ends : (text : List ℕ) (at stop end : ℕ) → stop ≡ at + length (clearPart (from text at)) → end ≡ stop + length (firstLine (from text stop)) → end ≡ at + length (firstLine (from text at))
+unfolding from
+clear-ends text at stop end e f =
+    let behind : drop stop text ≡ drop (length (clearPart (drop at text))) (drop at text) = rw e (sym (drop-drop (length (clearPart (drop at text))) at text)) in
+    omega (arith, e, f, first-clear (drop at text), ap (λ x. length (firstLine x)) behind)
+
+-- and the line is clear where that is its end
+pub clear-whole : (text : List ℕ) (at len stop end : ℕ) → stop ≡ at + length (clearPart (from text at)) → len ≡ 0 → Clear text at len end (eqb stop end)
+unfolding from
+clear-whole text at len stop end e z y =
+    let same : end - at ≡ length (clearPart (drop at text)) = omega (arith, e, eqb-true stop end y) in
+    (z, rw (same, clear-take (drop at text)) (clear-shown (drop at text)))
 
 -- the place behind a byte of the input is a number of 64 bits
 pub place-fits : (size end : ℕ) → size * 1 < 2 ^ 63 → end < size → Fits w64 (end + 1)

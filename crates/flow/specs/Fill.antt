@@ -3,9 +3,10 @@ use Prim.Native.Nat.{ℕ, _+_, _-_, _*_, _^_, _≤_, _<_}
 use mathlib.Core.Path.{_≡_}
 use mathlib.Core.Bool.{Bool, true, false}
 use mathlib.Core.List.{List, _++_}
-use lib.ListN.{length}
+use lib.ListN.{length, take, drop}
 use lib.Dec.{eqb}
-use Rattle.paper.specs.Byte.{if_then_else_}
+use Rattle.paper.specs.Byte.{if_then_else_, every}
+use Rattle.paper.specs.Command.{isShown}
 use Rattle.paper.specs.Line.{kept}
 use Rattle.paper.specs.State.{Led}
 use Rattle.paper.specs.Program.{Output, toTake}
@@ -79,6 +80,10 @@ pub record Room (r : Reach) (input out err : List ℕ) : Type 0 where
 -- where the line from a place on ends
 abbrev pub Ending : List ℕ → ℕ → ℕ → Type 0
 Ending input next end = end ≡ next + length (firstLine (from input next))
+
+-- a line that is known to be clear: nothing of it waits, and all its bytes up to its end are shown
+abbrev pub Clear : List ℕ → ℕ → ℕ → ℕ → Bool → Type 0
+Clear input next len end shown = shown ≡ true → (len ≡ 0) × (every isShown (take (end - next) (drop next input)) ≡ true)
 
 -- `gather`: a line of which nothing waits stays in the input, and memory as it is; else its rest waits too
 pub record Gathered (old : List ℕ) (len : ℕ) (rest new : List ℕ) (n : ℕ) : Type 0 where

@@ -4,9 +4,9 @@ ghost use mathlib.Core.Path.{_≡_};
 ghost use lib.ListN.{length};
 ghost use Rattle.call.specs.Call.{memoryOf};
 ghost use Rattle.listen.specs.Waiting.{Waiting};
-ghost use Rattle.flow.specs.Fill.{deskOf, placeOf, Stands, Inside, Room, Ending, Gathered, lineBy, Steps, Fills};
+ghost use Rattle.flow.specs.Fill.{deskOf, placeOf, Stands, Inside, Room, Ending, Clear, Gathered, lineBy, Steps, Fills};
+use crate::cut::cut_at;
 use call::sets_left;
-use form::walk::line_end;
 use listen::wait::put_kept;
 use reports::calls::REFUSAL_ROOM;
 use reports::calls::REPLY_ROOM;
@@ -171,11 +171,13 @@ fn step_hear(
     end: usize,
     out: &mut [u8],
     err: &mut [u8],
+    shown: bool,
 ) -> Filled
     requires { ⌜ Stands (deskOf (reach .run) (memoryOf (now all) (now names) (now texts) (now lens) (now plans) (now filed) (now name) (now text) (now answers) (now values) (now held)) (now waiting)) ⌝ }
     requires { ⌜ Room reach (now input) (now out) (now err) ⌝ }
     requires { ⌜ reach .run .left ≡ 0 ⌝ }
     requires { ⌜ (Ending (now input) (reach .next) end) × (end < length (now input)) ⌝ }
+    requires { ⌜ Clear (now input) (reach .next) (reach .run .len) end shown ⌝ }
     ensures { λ r. ⌜ Steps (now (input .entry)) (placeOf reach (memoryOf (now (all .entry)) (now (names .entry)) (now (texts .entry)) (now (lens .entry)) (now (plans .entry)) (now (filed .entry)) (now (name .entry)) (now (text .entry)) (now (answers .entry)) (now (values .entry)) (now (held .entry))) (now (waiting .entry))) (now (out .entry)) (now (err .entry)) (placeOf (r .reach) (memoryOf (now (all .exit)) (now (names .exit)) (now (texts .exit)) (now (lens .exit)) (now (plans .exit)) (now (filed .exit)) (now (name .exit)) (now (text .exit)) (now (answers .exit)) (now (values .exit)) (now (held .exit))) (now (waiting .exit))) (r .used) (now (out .exit)) (now (err .exit)) ⌝ }
 {
     let run = reach.run;
@@ -202,6 +204,7 @@ fn step_hear(
         reach.out,
         err,
         reach.err,
+        shown,
     );
     let left = sets_left(
         all,
@@ -274,7 +277,8 @@ fn step(
             err,
         );
     }
-    let end = line_end(input, reach.next);
+    let cut = cut_at(input, reach.next, run.len);
+    let end = cut.end;
     if end == input.len() {
         return step_wait(
             reach,
@@ -313,6 +317,7 @@ fn step(
         end,
         out,
         err,
+        cut.shown,
     )
 }
 

@@ -1,2 +1,3 @@
 // Input to output, over lent memory.
+pub mod cut;
 pub mod fill;

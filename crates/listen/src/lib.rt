@@ -1,4 +1,3 @@
 // A line to one session, in every state.
-pub mod any;
 pub mod obey;
 pub mod wait;

@@ -9,6 +9,8 @@ ghost use Rattle.paper.specs.Command.{isShown};
 ghost use Rattle.line.specs.Given.{IsRead};
 ghost use Rattle.session.specs.Memory.{sessionOf, shelfOf};
 ghost use Rattle.session.specs.Outcome.{At, Kept, Minds, NotAnswering, Hears};
+ghost use Rattle.listen.specs.Waiting.{faultOf};
+use crate::wait::SEEN;
 use command::Command;
 use command::Refusal;
 use filing::collect::finish;
@@ -18,7 +20,6 @@ use filing::file::inform;
 use filing::file::recall;
 use filing::file::start;
 use line::read::read_clear;
-use printing::answer::answer;
 use printing::answer::ask;
 use printing::print::print;
 use session::change::Change;
@@ -167,7 +168,7 @@ fn obey(
     }
 }
 
-// A line without control bytes: an answer where answers are asked for, and else a command or a refusal.
+// A line without control bytes where no answer is asked for: a command or a refusal.
 pub fn listen(
     held: Held,
     name: &mut [u8],
@@ -184,6 +185,7 @@ pub fn listen(
     reply: &mut [u8],
 ) -> Change
     requires { ⌜ At (sessionOf held (now name) (now text) (now answers) (now values)) (shelfOf filed (now all) (now names) (now texts) (now lens) (now plans)) ⌝ }
+    requires { ⌜ NotAnswering (held .mode) ⌝ }
     requires { ⌜ every isShown (now s) ≡ true ⌝ }
     ensures { λ r. ⌜ Hears (sessionOf held (now (name .entry)) (now (text .entry)) (now (answers .entry)) (now (values .entry))) (shelfOf filed (now (all .entry)) (now (names .entry)) (now (texts .entry)) (now (lens .entry)) (now (plans .entry))) (now (s .entry)) (now (reply .entry)) (now (reply .exit)) (r .answer) (sessionOf (r .held) (now (name .exit)) (now (text .exit)) (now (answers .exit)) (now (values .exit))) (shelfOf (r .filed) (now (all .exit)) (now (names .exit)) (now (texts .exit)) (now (lens .exit)) (now (plans .exit))) ⌝ }
 {
@@ -193,28 +195,31 @@ pub fn listen(
             filed,
         );
     }
-    let mode = held.mode;
-    let Mode::Answering { k } = mode else {
-        let c = read_clear(s);
-        return obey(
-            held,
-            name,
-            text,
-            answers,
-            values,
-            filed,
-            all,
-            names,
-            texts,
-            lens,
-            plans,
-            s,
-            c,
-            reply,
-        );
-    };
-    beside(
-        answer(held, name, text, answers, values, plans, s, k),
+    let c = read_clear(s);
+    obey(
+        held,
+        name,
+        text,
+        answers,
+        values,
         filed,
+        all,
+        names,
+        texts,
+        lens,
+        plans,
+        s,
+        c,
+        reply,
     )
+}
+
+// Why a line is refused of which so many bytes are kept, and a control byte is among them.
+pub fn fault_of(n: usize) -> Refusal
+    ensures { λ r. ⌜ r ≡ faultOf n ⌝ }
+{
+    if n == SEEN {
+        return Refusal::TooLong;
+    }
+    Refusal::ControlByte
 }

@@ -6,7 +6,7 @@ use mathlib.Core.List.{List, [], _∷_, _++_}
 use native.Mathlib.Omega.{arith}
 use lib.ListN.{length, take, drop, getD, replicate, length-append, length-drop}
 use lib.Dec.{ltb}
-use borrow.Author.Tests.{eq-eqb, ne-eqb, le-ltb}
+use borrow.Author.Tests.{eq-eqb, ne-eqb, le-ltb, lt-ltb, ltb-true, ltb-false}
 use Rattle.paper.specs.Byte.{every}
 use Rattle.paper.specs.Line.{long, control}
 use Rattle.paper.specs.Command as C
@@ -18,12 +18,14 @@ use Rattle.paper.specs.State.{Storable, fitting}
 use Rattle.paper.specs.Bench as P
 use Rattle.paper.proofs.Invariant.{fitting-more}
 use Rattle.paper.proofs.Law.{if-true, if-false}
+use Rattle.paper.proofs.Test.{either}
 use Rattle.paper.proofs.Text.{clear-control, clear-between}
 use Rattle.text.specs.Write.{Writes, padded}
 use Rattle.text.proofs.Padded.{padded-length, padded-write}
 use Rattle.command.specs.View.{width, refusalOf}
 use Rattle.command.specs.declared.Answer.{Answer}
 use Rattle.command.specs.declared.Answer.the-variants as A
+use Rattle.command.specs.declared.Refusal.{Refusal}
 use Rattle.command.specs.declared.Refusal.the-variants as W
 use Rattle.form.proofs.Distinct.{asked-few}
 use Rattle.store.specs.Packed.{Store}
@@ -34,9 +36,10 @@ use Rattle.set.specs.Judge.{Judges}
 use Rattle.set.specs.declared.answer.Value.{Value}
 use Rattle.set.specs.declared.answer.Value.the-variants.{Kept, Unfit}
 use Rattle.set.proofs.Answering.{answers-append, judged-kept, judged-unfit}
+use Rattle.set.proofs.Judging.{ask-short}
 use Rattle.set.proofs.Planned.{plan-asks}
 use Rattle.session.specs.Memory.{Session, Shelf, sessionOf, holds, holding, packedSession, Lies, ifIdle, afterFiling, afterCommand}
-use Rattle.session.specs.Outcome.{At, Planned, Does, Minds, Refuses, Hears, Answers, obey, waitsBy, afterReading, afterLine}
+use Rattle.session.specs.Outcome.{At, Planned, Does, Minds, Refuses, Hears, Answers, obey, waitsBy, unfitOf, afterReading, afterLine}
 use Rattle.session.specs.declared.state.Mode.{Mode}
 use Rattle.session.specs.declared.state.Mode.the-variants as M
 use Rattle.session.specs.declared.state.Held.{Held}
@@ -202,19 +205,46 @@ hears-answer session shelf k s b answer next m c h d =
           rw (w .state, stays-open (a .number) (a .forms) (w .lines) (w .given), if-false (ltb 256 (length s)) _ _ (le-ltb 256 (length s) h), if-false (control s) _ _ free, w .next) (d a w);
     }
 
+-- one that is too long is refused for that
+hears-over : (session : Session) (shelf : Shelf) (k : ℕ) (s b : List ℕ) (answer : Answer) (next : Session) → session .held .mode ≡ M.Answering k → 256 < length s → Refuses W.TooLong session answer next → Hears session shelf s b b answer next shelf
+unfolding P.heard P.inAnswering long afterLine refusalOf
+hears-over session shelf k s b answer next m h f =
+    record {
+      hears = λ a. let w = waits session shelf k a m in
+          rw (w .state, stays-open (a .number) (a .forms) (w .lines) (w .given), if-true (ltb 256 (length s)) _ _ (lt-ltb 256 (length s) h))
+          (does-refuse W.TooLong session answer next f shelf (a .forms) (a .number) (P.answering (w .lines) (w .given)) b (answering-here session shelf a k w) (a .there));
+    }
+
 -- 13: it does not fit
-pub answers-unfit : (session : Session) (plans s : List ℕ) (k : ℕ) (r : Value) (answer : Answer) (next : Session) → session .held .mode ≡ M.Answering k → every isShown s ≡ true → length s ≤ 256
-    → Judges (planAt plans (session .held .form)) k s (session .held .given) r → r ≡ Unfit → Refuses W.Unfit session answer next → Answers session plans s answer next
+hears-unfit : (session : Session) (shelf : Shelf) (k : ℕ) (s b : List ℕ) (r : Value) (answer : Answer) (next : Session) → session .held .mode ≡ M.Answering k → every isShown s ≡ true → length s ≤ 256
+    → Judges (planAt (shelf .plans) (session .held .form)) k s (session .held .given) r → r ≡ Unfit → Refuses W.Unfit session answer next → Hears session shelf s b b answer next shelf
 unfolding P.answered refusalOf packedSession
-answers-unfit session plans s k r answer next m c h j e f =
+hears-unfit session shelf k s b r answer next m c h j e f =
+    hears-answer session shelf k s b answer next m c h
+    (λ a w.
+    let no′ : fits (w .define) s ≡ false = judged-unfit (w .define) s (session .held .given) (sym e ∙ j .judges (asking-at session shelf a k w)) in
+    rw (if-false (fits (w .define) s) _ _ no′)
+    (does-refuse W.Unfit session answer next f shelf (a .forms) (a .number) (P.answering (w .lines) (w .given)) b (answering-here session shelf a k w) (a .there)))
+
+pub answers-unfit : (session : Session) (plans s : List ℕ) (k : ℕ) (r : Value) (answer : Answer) (next : Session) → session .held .mode ≡ M.Answering k → every isShown s ≡ true
+    → Judges (planAt plans (session .held .form)) k s (session .held .given) r → r ≡ Unfit → Refuses (unfitOf (length s)) session answer next → Answers session plans s answer next
+unfolding unfitOf
+answers-unfit session plans s k r answer next m c j e f =
     record {
       answers = λ store b. let shelf : Shelf = record { store = store; plans = plans } in
-          hears-answer session shelf k s b answer next m c h
-          (λ a w.
-          let no′ : fits (w .define) s ≡ false = judged-unfit (w .define) s (session .held .given) (sym e ∙ j .judges (asking-at session shelf a k w)) in
-          rw (if-false (fits (w .define) s) _ _ no′)
-          (does-refuse W.Unfit session answer next f shelf (a .forms) (a .number) (P.answering (w .lines) (w .given)) b (answering-here session shelf a k w) (a .there)));
+          either (ltb 256 (length s))
+          (λ y. hears-over session shelf k s b answer next m (ltb-true 256 (length s) y) (rw (if-true {A = Refusal} _ W.TooLong W.Unfit y) at f))
+          (λ n. hears-unfit session shelf k s b r answer next m c (ltb-false 256 (length s) n) j e (rw (if-false {A = Refusal} _ W.TooLong W.Unfit n) at f));
     }
+
+-- why, as the code tells it
+pub unfit-long : (n : ℕ) → 256 < n → W.TooLong ≡ unfitOf n
+unfolding unfitOf
+unfit-long n l = sym (if-true _ _ _ (lt-ltb 256 n l))
+
+pub unfit-short : (n : ℕ) → n ≤ 256 → W.Unfit ≡ unfitOf n
+unfolding unfitOf
+unfit-short n l = sym (if-false _ _ _ (le-ltb 256 n l))
 
 -- it fits: what is kept of it
 record Fitting (s : List ℕ) (given : List (List ℕ)) (define : Define) (first second : ℕ) : Type 0 where
@@ -279,7 +309,7 @@ takes-answer session s answers values k given fs n ls gs e room w v mode =
 
 -- and it is taken
 pub answers-fit : (session : Session) (plans s : List ℕ) (k : ℕ) (r : Value) (first second : ℕ) (answers : List ℕ) (given : ℕ) (values : List ℕ) (mode : Mode) (turn : Turn)
-    → session .held .mode ≡ M.Answering k → every isShown s ≡ true → length s ≤ 256
+    → Planned session plans → session .held .mode ≡ M.Answering k → every isShown s ≡ true
     → Judges (planAt plans (session .held .form)) k s (session .held .given) r → r ≡ Kept first second
     → Writes (session .answers) (session .held .given) s answers given
     → Notes (session .values) (planAt plans (session .held .form)) k first second values
@@ -287,11 +317,13 @@ pub answers-fit : (session : Session) (plans s : List ℕ) (k : ℕ) (r : Value)
     → turn ≡ record { answer = A.Accepted 0; held = record { mode = mode; form = session .held .form; start = session .held .start; size = session .held .size; len = session .held .len; drafted = session .held .drafted; given = given } }
     → Answers session plans s (turn .answer) (sessionOf (turn .held) (session .name) (session .text) answers values)
 unfolding P.answered
-answers-fit session plans s k r first second answers given values mode turn m c h j e w v q d =
+answers-fit session plans s k r first second answers given values mode turn p m c j e w v q d =
+    let t₀ = waits session (record { store = p .store; plans = plans }) k (p .at) m in
+    let short = ask-short (planAt plans (session .held .form)) k s (asking-at session _ (p .at) k t₀) (fits-as session plans s k r first second j e (p .store) (p .at) t₀ .fit) in
     rw d
     (record {
       answers = λ store b. let shelf : Shelf = record { store = store; plans = plans } in
-          hears-answer session shelf k s b _ _ m c h
+          hears-answer session shelf k s b _ _ m c (omega (arith, short))
           (λ a x.
           let y = fits-as session plans s k r first second j e store a x in
           let gs = x .given in

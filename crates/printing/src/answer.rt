@@ -1,13 +1,11 @@
 // Asking for answers: `?`, and each line that is an answer.
-ghost use Prim.Native.Nat.{_≤_};
 ghost use mathlib.Core.Path.{_≡_};
 ghost use mathlib.Core.Bool.{true};
-ghost use lib.ListN.{length};
 ghost use Rattle.paper.specs.Byte.{every};
 ghost use Rattle.paper.specs.Command as C;
 ghost use Rattle.paper.specs.Command.{isShown};
 ghost use Rattle.session.specs.Memory.{sessionOf};
-ghost use Rattle.session.specs.Outcome.{Kept, Planned, Minds, Answers, waitsBy};
+ghost use Rattle.session.specs.Outcome.{Kept, Planned, Minds, Answers, waitsBy, unfitOf};
 ghost use Rattle.session.specs.declared.state.Mode.the-variants as M;
 use command::Refusal;
 use form::plan::PLAN;
@@ -21,6 +19,9 @@ use set::answer::Value;
 use set::answer::judged;
 use set::answer::note_value;
 use text::write::put_all;
+
+// The longest line.
+const LINE: usize = 256;
 
 // `?` asks for the first answer of an opened form.
 pub fn ask(
@@ -50,7 +51,17 @@ fn waiting(k: usize, asked: usize) -> Mode
     Mode::Answering { k }
 }
 
-// A line without control bytes and not too long is answer k: kept where it fits, with what it is worth.
+// Why an answer of so many bytes is refused that does not fit.
+fn unfit_of(n: usize) -> Refusal
+    ensures { λ r. ⌜ r ≡ unfitOf n ⌝ }
+{
+    if LINE < n {
+        return Refusal::TooLong;
+    }
+    Refusal::Unfit
+}
+
+// A line without control bytes is answer k: kept where it fits, with what it is worth. One that is too long fits nothing.
 pub fn answer(
     held: Held,
     name: &mut [u8],
@@ -64,14 +75,13 @@ pub fn answer(
     requires { ⌜ Planned (sessionOf held (now name) (now text) (now answers) (now values)) (now plans) ⌝ }
     requires { ⌜ held .mode ≡ M.Answering k ⌝ }
     requires { ⌜ every isShown (now s) ≡ true ⌝ }
-    requires { ⌜ length (now s) ≤ 256 ⌝ }
     ensures { λ r. ⌜ Answers (sessionOf held (now (name .entry)) (now (text .entry)) (now (answers .entry)) (now (values .entry))) (now (plans .entry)) (now (s .entry)) (r .answer) (sessionOf (r .held) (now (name .exit)) (now (text .exit)) (now (answers .exit)) (now (values .exit))) ⌝ }
 {
     let at = held.form * PLAN;
     let end = at + PLAN;
     let plan = &plans[at..end];
     let Value::Kept { first, second } = judged(plan, k, s, held.given) else {
-        return refuse(Refusal::Unfit, held, name, text, answers, values);
+        return refuse(unfit_of(s.len()), held, name, text, answers, values);
     };
     let given = put_all(answers, held.given, s);
     note_value(values, plan, k, first, second);

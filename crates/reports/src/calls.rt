@@ -1,14 +1,17 @@
 // The calls of the bench, each with its bytes behind those that wait in the program's buffers.
 ghost use Prim.Native.Nat.{_+_, _≤_};
 ghost use mathlib.Core.Path.{_≡_};
+ghost use mathlib.Core.Bool.{true};
 ghost use lib.ListN.{length};
+ghost use Rattle.paper.specs.Byte.{every};
+ghost use Rattle.paper.specs.Command.{isShown};
 ghost use Rattle.paper.specs.Refusal as R;
 ghost use Rattle.paper.specs.Program.{outOf};
 ghost use Rattle.command.specs.Answer as C;
 ghost use Rattle.call.specs.Call.{memoryOf, Reached};
 ghost use Rattle.reports.specs.Said.{HearsAt, TakesAt};
 use crate::refusals::put_refusal;
-use call::hear;
+use call::hear_known;
 use call::take;
 use command::Answer;
 
@@ -34,7 +37,8 @@ fn bytes_of(answer: Answer) -> usize
     len
 }
 
-// The input line of a number is heard: its reply goes to one buffer, its refusal to the other.
+// The input line of a number is heard, which may be known to be free of bytes below 20H: its reply goes to one buffer, its refusal to
+// the other.
 pub fn hear_line(
     all: &mut [u8],
     names: &mut [u8],
@@ -53,13 +57,15 @@ pub fn hear_line(
     at: usize,
     err: &mut [u8],
     place: usize,
+    shown: bool,
 ) -> Called
     requires { ⌜ Reached (memoryOf (now all) (now names) (now texts) (now lens) (now plans) (now filed) (now name) (now text) (now answers) (now values) (now held)) ⌝ }
     requires { ⌜ (at + 10291 ≤ length (now out)) × (place + 64 ≤ length (now err)) ⌝ }
+    requires { ⌜ (shown ≡ true → every isShown (now s) ≡ true) ⌝ }
     ensures { λ r. ⌜ HearsAt (memoryOf (now (all .entry)) (now (names .entry)) (now (texts .entry)) (now (lens .entry)) (now (plans .entry)) (now (filed .entry)) (now (name .entry)) (now (text .entry)) (now (answers .entry)) (now (values .entry)) (now (held .entry))) (now (s .entry)) k (now (out .entry)) at (now (err .entry)) place (memoryOf (now (all .exit)) (now (names .exit)) (now (texts .exit)) (now (lens .exit)) (now (plans .exit)) (now (filed .exit)) (now (name .exit)) (now (text .exit)) (now (answers .exit)) (now (values .exit)) (now (held .exit))) (now (out .exit)) (r .out) (now (err .exit)) (r .err) ⌝ }
 {
     let end = at + REPLY_ROOM;
-    let answer = hear(
+    let answer = hear_known(
         all,
         names,
         texts,
@@ -73,6 +79,7 @@ pub fn hear_line(
         held,
         s,
         &mut out[at..end],
+        shown,
     );
     Called {
         out: at + bytes_of(answer),

@@ -4,7 +4,7 @@ use mathlib.Core.Path.{_≡_}
 use mathlib.Core.Bool.{true, _||_}
 use mathlib.Core.List.{List, [], _∷_, _++_}
 use lib.ListN.{length}
-use lib.Dec.{leb, eqb}
+use lib.Dec.{leb, ltb, eqb}
 use Rattle.paper.specs.Byte.{if_then_else_, same, every}
 use Rattle.paper.specs.Command as C
 use Rattle.paper.specs.Command.{Command, FormLine, keep, isName, isShown, star}
@@ -19,6 +19,7 @@ use Rattle.command.specs.Answer.{Meets}
 use Rattle.command.specs.declared.Answer.{Answer}
 use Rattle.command.specs.declared.Answer.the-variants as A
 use Rattle.command.specs.declared.Refusal.{Refusal}
+use Rattle.command.specs.declared.Refusal.the-variants as W
 use Rattle.command.specs.declared.Command as L
 use Rattle.text.specs.Write.{padded}
 use Rattle.text.specs.declared.read.Span.{Span}
@@ -176,6 +177,10 @@ opensBy asked = if eqb asked 0 then M.Ready else M.Opened
 -- the state behind k answers of so many
 unfoldable pub waitsBy : ℕ → ℕ → Mode
 waitsBy k asked = if eqb k asked then M.Ready else M.Answering k
+
+-- why an answer of so many bytes is refused that does not fit
+unfoldable pub unfitOf : ℕ → Refusal
+unfitOf n = if ltb 256 n then W.TooLong else W.Unfit
 
 -- in Answering a line is no command
 abbrev pub NotAnswering : Mode → Type 0

@@ -41,6 +41,12 @@ len-small (P.counting n len letter (P.up by) prompt) e k = counting-len n len le
 len-small (P.counting n len letter (P.down by) prompt) e k = counting-len n len letter (P.down by) prompt e
 len-small (P.varying n len letter prompt) e k = absurd (k refl)
 
+-- any len
+pub len-most : (d : P.Define) → allOf (defineRanges d) ≡ true → lenOf d ≤ 99
+unfolding lenOf defineRanges
+len-most (P.counting n len letter by prompt) e = omega (tests, held (defineRanges (P.counting n len letter by prompt)) e .1 .0 .1 .0)
+len-most (P.varying n len letter prompt) e = omega (tests, held (defineRanges (P.varying n len letter prompt)) e .1 .0 .1 .0)
+
 -- what fits a counter
 fits-digits : (n len letter : ℕ) (by : P.Step) (prompt a : List ℕ) → fits (P.counting n len letter by prompt) a ≡ true → every isDigit a ≡ true
 unfolding fits

@@ -1,9 +1,10 @@
 -- An answer to a definition of a plan: the tests of the code decide whether it fits, and what is kept of it is noted at its value.
 use Prim.Native.Nat.{ℕ, zero, suc, _+_, _*_, _≤_, _<_}
 use mathlib.Core.Path.{_≡_, refl, sym, _∙_, ap}
-use mathlib.Core.Bool.{true, false, and-false}
+use mathlib.Core.Bool.{true, false, and-false, true≢false}
 use mathlib.Core.List.{List, [], _∷_, _++_}
 use native.Mathlib.Omega.{arith}
+use native.Mathlib.Decide.{decLt}
 use lib.ListN.{length, take, drop, getD, replicate}
 use borrow.Author.Tests.{le-leb, lt-leb}
 use Rattle.paper.specs.Byte.{every}
@@ -23,7 +24,7 @@ use Rattle.set.specs.declared.answer.Value.the-variants.{Kept, Unfit}
 use Rattle.set.specs.declared.answer.Amount.{Amount}
 use Rattle.set.specs.declared.answer.Amount.the-variants.{Is, Not}
 use Rattle.form.proofs.Distinct.{Ranged, ranged, small, number-below}
-use Rattle.set.proofs.Defining.{len-small}
+use Rattle.set.proofs.Defining.{len-small, len-most}
 use Rattle.set.proofs.Keeping.{from-more}
 use Rattle.set.proofs.Planned.{Defined, plan-define}
 
@@ -115,6 +116,14 @@ module _ (plan : List ℕ) (k : ℕ) where
   ask-nine a t n h =
       let s = stands t in
       omega (arith, s .len, len-small (t .define) (in-range t) (λ q. n (s .kind ∙ q)))
+
+  -- what fits it is short
+  pub ask-short : (a : List ℕ) (t : Asking plan k) → fits (t .define) a ≡ true → length a ≤ 99
+  ask-short a t f =
+      elim (decLt (lenOf (t .define)) (length a)) [
+        | yes more ↦ absurd (true≢false (sym f ∙ fits-long (t .define) a more))
+        | no few ↦ omega (arith, len-most (t .define) (in-range t))
+      ]
 
   module _ (a : List ℕ) (given : ℕ) where
     pub judged-long : getD plan (2 + k * 4 + 1) 0 < length a → Judges plan k a given Unfit

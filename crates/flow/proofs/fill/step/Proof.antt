@@ -54,11 +54,11 @@ same-length-14 c = search needs
 returns : tie.Need-returns
 returns c = c .before .before .before .before .before .before .before .before .before .before .before .before .step-take .ensures
 
-line-end-requires : tie.Need-line-end-requires
-line-end-requires c κs = search needs
+cut-at-requires : tie.Need-cut-at-requires
+cut-at-requires c κs = c .before .before .before .before .before .before .before .before .before .before .before .before .before .before .before .before .before .before .pre .1 .nextInside
 
 step-wait-requires : tie.Need-step-wait-requires
-step-wait-requires c κs = let pre = c .before .before .before .before .before .before .before .before .before .before .before .before .before .before .before .before .before .before .before .before .before .before .before .before .before .before .before .before .before .before .before .before .before .before .pre in (pre .0, (pre .1, (omega (arith, c .before .before .before .before .before .before .before .before .before .before .before .before .before .before .before .before .if1 .left), sym (c .before .before .before .before .before .before .before .before .before .before .before .before .before .before .if2 .taken) ∙ c .before .before .before .before .before .before .before .before .before .before .before .before .before .before .before .line-end .ensures)))
+step-wait-requires c κs = let pre = c .before .before .before .before .before .before .before .before .before .before .before .before .before .before .before .before .before .before .before .before .before .before .before .before .before .before .before .before .before .before .before .before .before .before .pre in (pre .0, (pre .1, (omega (arith, c .before .before .before .before .before .before .before .before .before .before .before .before .before .before .before .before .if1 .left), sym (c .before .before .before .before .before .before .before .before .before .before .before .before .before .before .if2 .taken) ∙ c .before .before .before .before .before .before .before .before .before .before .before .before .before .before .before .cut-at .ensures .0)))
 
 same-length-15 : tie.Need-same-length-15
 same-length-15 c = refl
@@ -106,7 +106,7 @@ returns-2 : tie.Need-returns-2
 returns-2 c = c .before .before .step-wait .ensures
 
 step-hear-requires : tie.Need-step-hear-requires
-step-hear-requires c κs = let pre = c .before .before .before .before .before .before .before .before .before .before .before .before .before .before .before .before .before .before .before .before .before .before .before .before .before .before .before .before .before .before .before .before .before .before .pre in let ending = c .before .before .before .before .before .before .before .before .before .before .before .before .before .before .before .line-end .ensures in (pre .0, (pre .1, (omega (arith, c .before .before .before .before .before .before .before .before .before .before .before .before .before .before .before .before .if1 .left), (ending, ends-before _ _ _ (pre .1 .nextInside) ending (c .before .before .before .before .before .before .before .before .before .before .before .before .before .before .if2 .left)))))
+step-hear-requires c κs = let pre = c .before .before .before .before .before .before .before .before .before .before .before .before .before .before .before .before .before .before .before .before .before .before .before .before .before .before .before .before .before .before .before .before .before .before .pre in let cut = c .before .before .before .before .before .before .before .before .before .before .before .before .before .before .before .cut-at .ensures in (pre .0, (pre .1, (omega (arith, c .before .before .before .before .before .before .before .before .before .before .before .before .before .before .before .before .if1 .left), ((cut .0, ends-before _ _ _ (pre .1 .nextInside) (cut .0) (c .before .before .before .before .before .before .before .before .before .before .before .before .before .before .if2 .left)), cut .1))))
 
 same-length-29 : tie.Need-same-length-29
 same-length-29 c = c .before .before .before .before .before .before .before .before .before .before .before .before .before .before .before .before .before .before .before .before .before .before .before .before .before .before .before .all .given
@@ -173,7 +173,7 @@ step-spec =
     same-length-13
     same-length-14
     returns
-    line-end-requires
+    cut-at-requires
     step-wait-requires
     same-length-15
     same-length-16

@@ -105,11 +105,7 @@ unfolding quiet
 quiet-length [] = refl
 quiet-length (s ∷ ss) = ap suc (quiet-length ss)
 
--- memory is fixed by what it means: the paper's bench, and the number of the form that is held open
-pub memory-one : (self self′ : Memory) (k : Reached self) (k′ : Reached self′) → k .paper ≡ k′ .paper → k .number ≡ k′ .number → self ≡ self′
-memory-one self self′ k k′ e f = k .is ∙ ap (λ b. packedBench b (k .number)) e ∙ ap (packedBench (k′ .paper)) f ∙ sym (k′ .is)
-
--- in Idle by the bench alone
+-- in Idle memory is fixed by the bench alone
 pub idle-memory : (self self′ : Memory) (k : Reached self) (k′ : Reached self′) → k .paper ≡ k′ .paper → k′ .paper .session ≡ P.idle → self ≡ self′
 idle-memory self self′ k k′ e f = k .is ∙ ap (λ b. packedBench b (k .number)) e ∙ idle-one (k′ .paper) (k .number) (k′ .number) f ∙ sym (k′ .is)
 

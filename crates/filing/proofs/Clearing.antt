@@ -80,9 +80,9 @@ shelf-cleared shelf less plans k c w =
     λ j. record { store = c j; plans = none j }
 
 -- as many bytes as the store has used
-pub at-used : (session : Session) (shelf : Shelf) (a : At session shelf) → shelf .store .used ≡ used (a .forms)
+pub at-bytes : (session : Session) (shelf : Shelf) (a : At session shelf) → shelf .store .used ≡ used (a .forms)
 unfolding packedShelf packed
-at-used session shelf a = ap (λ x. x .store .used) (a .there) ∙ entries-used (a .forms)
+at-bytes session shelf a = ap (λ x. x .store .used) (a .there) ∙ entries-used (a .forms)
 
 -- a form that stands on a shelf is one of those there
 pub leaving-counts : (shelf : Shelf) (index start size : ℕ) (l : Leaving shelf index start size) → shelf .store .count ≡ length (l .before) + suc (length (l .behind))
@@ -105,7 +105,7 @@ leaving-stands shelf index start size l =
       place = l .place ∙ rw (l .number, l .forms) (entries-place (l .before) (l .here ∷ l .behind));
       bytes = l .bytes;
       counted = omega (arith, l .number);
-      inside = rw (at-used (l .session) shelf a, l .place, l .bytes) ends;
+      inside = rw (at-bytes (l .session) shelf a, l .place, l .bytes) ends;
     }
 
 -- there is room for its number in a plan's place

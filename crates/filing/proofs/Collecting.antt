@@ -35,7 +35,6 @@ use Rattle.form.specs.Noting.{Plannable, Plans}
 use Rattle.store.specs.Packed.{Store, entry, packed}
 use Rattle.store.specs.Lent.{Stocked, Spare, Joins}
 use Rattle.store.specs.declared.Filed.{Filed}
-use Rattle.store.proofs.Standing.{stocks}
 use Rattle.session.specs.Memory.{Session, sessionOf, Shelf, shelfOf, drafts, drafting, packedSession, packedShelf, entriesOf, plansOf, afterFiling, afterCommand}
 use Rattle.session.specs.Outcome.{At, Kept, Used, Does, Minds, Files, Refuses, Keeps, Collects, Drafted, Shelves, obey}
 use Rattle.session.specs.declared.state.Mode.the-variants as M
@@ -45,8 +44,9 @@ use Rattle.session.specs.declared.change.Change.{Change}
 use Rattle.session.proofs.state.Mode as Mode
 use Rattle.session.proofs.Held.{Tagged, seen, does-done, does-refused, does-refuse}
 use Rattle.session.proofs.Used.{padded-front, name-short, kept-used, fills-inside}
-use Rattle.session.proofs.Entries.{entries-count, entries-used, store-kept}
-use Rattle.filing.proofs.Plotted.{plan-clear, plan-joins, stored-each, plans-whole}
+use Rattle.session.proofs.Parted.{plans-of, plans-whole}
+use Rattle.filing.proofs.Plotted.{plan-clear, plan-joins}
+use Rattle.filing.proofs.Clearing.{at-stocked, at-count, at-bytes}
 
 -- a line for a spoiled form is dropped
 pub keeps-spoiled : (l : FormLine) (session : Session) (r : Turn) → Tagged (2 ∷ []) session → r ≡ record { answer = A.Accepted 0; held = session .held }
@@ -131,26 +131,6 @@ unfolding lineNumber
 numbered none line e h = absurd (omega arith)
 numbered (some n) line e h = ap some (sym e)
 
--- a shelf counts its forms
-count-forms : (shelf : Shelf) (fs : List Form) → shelf ≡ packedShelf fs → shelf .store .count ≡ length fs
-unfolding packedShelf packed
-count-forms shelf fs e = ap (λ s. s .store .count) e ∙ entries-count fs
-
--- and their bytes
-count-bytes : (shelf : Shelf) (fs : List Form) → shelf ≡ packedShelf fs → shelf .store .used ≡ used fs
-unfolding packedShelf packed
-count-bytes shelf fs e = ap (λ s. s .store .used) e ∙ entries-used fs
-
--- and has a plan of each
-planned : (shelf : Shelf) (fs : List Form) → shelf ≡ packedShelf fs → shelf .plans ≡ padded 1856 (plansOf fs)
-unfolding packedShelf
-planned shelf fs e = ap (λ s. s .plans) e
-
--- its store holds them
-pub at-stocked : (session : Session) (shelf : Shelf) → At session shelf → Stocked (shelf .store)
-unfolding packedShelf
-at-stocked session shelf a = stocks (shelf .store) (store-kept (shelf .store) (a .forms) (ap (λ s. s .store) (a .there)) (a .sane .forms))
-
 -- what the check of a session's text says
 abbrev pub Tells : Session → ℕ → Type 0
 Tells session line = (ls : List FormLine) → take (session .held .drafted) (session .text) ≡ textOf ls → allIn width ls ≡ true → line ≡ lineNumber (unsoundAt ls)
@@ -185,8 +165,8 @@ storable session fs st line d t h = record { inside = d .draft .inside; limits =
 room-told : (session : Session) (shelf : Shelf) (t : Bool) (a : At session shelf) (d : InDraft session (a .forms) (a .state)) → Rooms session shelf t → t ≡ hasRoom (a .forms) (d .lines)
 unfolding hasRoom
 room-told session shelf t a d h =
-    let count = count-forms shelf (a .forms) (a .there) in
-    let bytes = count-bytes shelf (a .forms) (a .there) in
+    let count = at-count session shelf a in
+    let bytes = at-bytes session shelf a in
     h ∙ rw (count, bytes, draft-size session (a .forms) (a .state) d)
 
 -- a form for which there is no room is 11
@@ -224,7 +204,7 @@ room-spare session shelf t s m y =
 pub plan-inside : (session : Session) (shelf : Shelf) (t : Bool) → Drafted session shelf → Rooms session shelf t → not t ≡ false → shelf .store .count * 232 + 232 ≤ length (shelf .plans)
 plan-inside session shelf t s m y =
     let a = s .at in
-    let whole = plans-whole (shelf .plans) (a .forms) (planned shelf (a .forms) (a .there)) (stored-each (a .forms) (a .sane .forms .each)) (a .sane .forms .few) in
+    let whole = plans-whole shelf (a .forms) (a .there) (a .sane .forms) in
     omega (arith, whole, room-few session shelf t m y)
 
 -- the numbers from a place to the end of the plan there
@@ -240,12 +220,12 @@ pub draft-plannable : (session : Session) (shelf : Shelf) (line : ℕ) (t : Bool
 draft-plannable session shelf line t s l h m y =
     let a = s .at in
     let d = in-draft session shelf a (s .collects) in
-    let count = count-forms shelf (a .forms) (a .there) in
+    let count = at-count session shelf a in
     record {
       lines = d .lines;
       is = draft-text session (a .forms) (a .state) d;
       storable = storable session (a .forms) (a .state) line d l h;
-      clear = plan-clear (shelf .plans) (a .forms) _ _ (planned shelf (a .forms) (a .there)) (stored-each (a .forms) (a .sane .forms .each)) (omega (arith, room-few session shelf t m y)) (ap (λ n. n * 232) count) (wide-plan (shelf .store .count * 232));
+      clear = plan-clear (shelf .plans) (a .forms) _ _ (plans-of shelf (a .forms) (a .there)) (a .sane .forms .each) (omega (arith, room-few session shelf t m y)) (ap (λ n. n * 232) count) (wide-plan (shelf .store .count * 232));
     }
 
 -- the entries with one form more
@@ -268,12 +248,12 @@ shelf-stored session shelf line plan more a d l h few p j =
     let text = draft-text session (a .forms) (a .state) d in
     let name = draft-name session (a .forms) (a .state) d in
     let s = storable session (a .forms) (a .state) line d l h in
-    let count = count-forms shelf (a .forms) (a .there) in
+    let count = at-count session shelf a in
     let store : more ≡ packed (entriesOf (stored (a .forms) (d .name) (d .lines))) =
     j .joins (entriesOf (a .forms)) (ap (λ x. x .store) (a .there)) ∙ rw (text, name, entries-stored) in
     let plans : pasted (shelf .plans) (shelf .store .count * 232) plan ≡ padded 1856 (plansOf (stored (a .forms) (d .name) (d .lines))) =
     ap (pasted (shelf .plans) (shelf .store .count * 232)) (p .plans (d .lines) text s)
-    ∙ plan-joins (shelf .plans) (a .forms) _ _ (record { name = d .name; lines = d .lines }) (planned shelf (a .forms) (a .there)) (stored-each (a .forms) (a .sane .forms .each)) (omega (arith, few)) (ap (λ n. n * 232) count) (wide-plan (shelf .store .count * 232)) s in
+    ∙ plan-joins (shelf .plans) (a .forms) _ _ (record { name = d .name; lines = d .lines }) (plans-of shelf (a .forms) (a .there)) (a .sane .forms .each) (omega (arith, few)) (ap (λ n. n * 232) count) (wide-plan (shelf .store .count * 232)) s in
     λ i. record { store = store i; plans = plans i }
 
 -- a sound form for which there is room is stored

@@ -16,6 +16,7 @@ use Rattle.paper.proofs.Test.{either}
 use Rattle.paper.proofs.Text.{every-append}
 use Rattle.text.specs.Place.{from}
 use Rattle.form.specs.Walk.{firstLine}
+use Rattle.form.proofs.Lines.{first-short}
 use Rattle.flow.specs.Feed.{line, feed}
 
 -- a byte that does not end a line
@@ -155,14 +156,6 @@ rest-inside input next e = let whole = first-whole (drop next input) (omega (ari
 -- the input from a place on, as a part up to its end
 pub rest-part : (input : List ℕ) (next : ℕ) → take (length input - next) (drop next input) ≡ drop next input
 rest-part input next = take-all (length input - next) (drop next input) (omega (arith, length-drop next input))
-
--- a first line has no more bytes than the text
-first-short : (s : List ℕ) → length (firstLine s) ≤ length s
-unfolding firstLine
-first-short [] = omega arith
-first-short (b ∷ s) =
-    let less = first-short s in
-    by-test (λ t. length t ≤ suc (length s)) (eqb b lf) [] (b ∷ firstLine s) (λ y. omega arith) (λ n. omega arith)
 
 -- a line that does not end where the input does ends before
 pub ends-before : (input : List ℕ) (next end : ℕ) → next ≤ length input → end ≡ next + length (firstLine (from input next)) → (end ≡ length input → ⊥) → end < length input

@@ -112,9 +112,9 @@ clear-ends text at stop end e f =
     omega (arith, e, f, first-clear (drop at text), ap (λ x. length (firstLine x)) behind)
 
 -- and the line is clear where that is its end
-pub clear-whole : (text : List ℕ) (at len stop end : ℕ) → stop ≡ at + length (clearPart (from text at)) → len ≡ 0 → Clear text at len end (eqb stop end)
+pub clear-cut : (text : List ℕ) (at len stop end : ℕ) → stop ≡ at + length (clearPart (from text at)) → len ≡ 0 → Clear text at len end (eqb stop end)
 unfolding from
-clear-whole text at len stop end e z y =
+clear-cut text at len stop end e z y =
     let same : end - at ≡ length (clearPart (drop at text)) = omega (arith, e, eqb-true stop end y) in
     (z, rw (same, clear-take (drop at text)) (clear-shown (drop at text)))
 

@@ -42,7 +42,7 @@ unfolding firstLine from
 end-none text at i e h = sym (e ∙ rw (drop-of-length-le text {i = i} h) (omega arith))
 
 -- a first line has no more bytes than the text
-first-short : (s : List ℕ) → length (firstLine s) ≤ length s
+pub first-short : (s : List ℕ) → length (firstLine s) ≤ length s
 unfolding firstLine
 first-short [] = omega arith
 first-short (b ∷ s) =

@@ -51,6 +51,9 @@ use text::read::byte_at;
 use text::read::letter_at;
 use text::read::number_at;
 
+// The longest line.
+pub const LINE: usize = 256;
+
 // A command that is all letters: nothing may follow them.
 fn bare(s: &[u8], at: usize, c: Command) -> Command
     ensures { λ r. ⌜ ((p : P.Command) → viewOf (now (s .entry)) c ≡ command p → inRange width p ≡ true → Stand (now (s .entry)) c → Gives (now (s .entry)) (ended p (from (now (s .entry)) at)) r) ⌝ }
@@ -474,7 +477,7 @@ pub fn read_clear(s: &[u8]) -> Command
 pub fn read_line(s: &[u8]) -> Command
     ensures { λ r. ⌜ IsRead (now (s .entry)) r ⌝ }
 {
-    if 256 < s.len() {
+    if LINE < s.len() {
         return Command::Refused {
             why: Refusal::TooLong,
         };

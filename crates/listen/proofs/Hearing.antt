@@ -18,7 +18,7 @@ use Rattle.paper.proofs.Law.{if-true, if-false}
 use Rattle.paper.proofs.Test.{either}
 use Rattle.paper.proofs.Text.{clear-between, clear-control}
 use Rattle.paper.proofs.Dropped.{kept-stays, stays-kept, stays-take, kept-clear}
-use Rattle.paper.proofs.Long.{hear-first}
+use Rattle.paper.proofs.Long.{read-first, hear-first}
 use Rattle.command.specs.View.{width}
 use Rattle.command.specs.declared.Answer.{Answer}
 use Rattle.command.specs.declared.Refusal.{Refusal}
@@ -46,17 +46,10 @@ kept-inside old s new n l c = let w = waits-kept old s new n l c in omega (arith
 pub kept-counts : (old s new : List ℕ) (n : ℕ) → length old ≡ 257 → Comes old 0 s new n → n ≡ length (take n new)
 kept-counts old s new n l c = let w = waits-kept old s new n l c in w .counts ∙ ap length (sym (w .front))
 
--- a line is read by its first 257 bytes
-read-first : (s : List ℕ) → read width (take 257 s) ≡ read width s
-unfolding read long
-read-first s =
-    either (long s)
-    (λ y. if-true _ _ _ (lt-ltb 256 (length (take 257 s)) (omega (arith, length-take 257 s, ltb-true 256 (length s) y))) ∙ sym (if-true _ _ _ y))
-    (λ n. rw (take-all 257 s (omega (arith, ltb-false 256 (length s) n))))
-
+-- a line leads to the same form as its first 257 bytes
 after-first : (n : ℕ) (fs : List Form) (st : P.Session) (s : List ℕ) → afterLine n fs st (take 257 s) ≡ afterLine n fs st s
 unfolding afterLine
-after-first n fs st s = rw (read-first s)
+after-first n fs st s = rw (read-first width s)
 
 -- a line of at most 256 bytes is not too long
 below : (s : List ℕ) → length s ≤ 256 → long s ≡ false

@@ -182,10 +182,6 @@ heeds-refused session shelf s b answer next free c why i e r =
     hears-read session shelf s b b answer next shelf free λ a.
     rw (sym (i .view) ∙ ap (viewOf s) e) (does-refuse why session answer next r shelf (a .forms) (a .number) (a .state) b (a .here) (a .there))
 
--- in every other state a line may be a command
-pub not-answering : (mode : Mode) → OneOf (0 ∷ 1 ∷ 2 ∷ 3 ∷ 5 ∷ 6 ∷ []) (tagOf State.the-type mode) → NotAnswering mode
-not-answering mode h k e = miss (0 ∷ 1 ∷ 2 ∷ 3 ∷ 5 ∷ 6 ∷ []) _ tt (rw e at h)
-
 -- a line that is not read
 unread-heard : (s : List ℕ) (r : R.Refusal) → read width s ≡ unread r → ((fs : List Form) (ls : List C.FormLine) (given : List (List ℕ)) → P.inAnswering fs ls given s ≡ P.refuse r fs (P.answering ls given))
     → (room : ℕ) (fs : List Form) (st : P.Session) → P.heard width room fs st s ≡ P.refuse r fs st

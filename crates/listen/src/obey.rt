@@ -9,8 +9,6 @@ ghost use Rattle.paper.specs.Command.{isShown};
 ghost use Rattle.line.specs.Given.{IsRead};
 ghost use Rattle.session.specs.Memory.{sessionOf, shelfOf};
 ghost use Rattle.session.specs.Outcome.{At, Kept, Minds, NotAnswering, Hears};
-ghost use Rattle.listen.specs.Waiting.{faultOf};
-use crate::wait::SEEN;
 use command::Command;
 use command::Refusal;
 use filing::collect::finish;
@@ -19,6 +17,7 @@ use filing::file::delete;
 use filing::file::inform;
 use filing::file::recall;
 use filing::file::start;
+use line::read::LINE;
 use line::read::read_clear;
 use printing::answer::ask;
 use printing::print::print;
@@ -31,9 +30,6 @@ use session::state::done;
 use session::state::fresh;
 use session::state::refuse;
 use store::Filed;
-
-// The longest line.
-const LINE: usize = 256;
 
 // `N` goes to Idle, but not while a form is collected.
 fn reset(
@@ -212,14 +208,4 @@ pub fn listen(
         c,
         reply,
     )
-}
-
-// Why a line is refused of which so many bytes are kept, and a control byte is among them.
-pub fn fault_of(n: usize) -> Refusal
-    ensures { λ r. ⌜ r ≡ faultOf n ⌝ }
-{
-    if n == SEEN {
-        return Refusal::TooLong;
-    }
-    Refusal::ControlByte
 }

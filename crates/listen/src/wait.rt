@@ -1,5 +1,7 @@
 // Bytes that wait for the end of their line. CR and 1AH are dropped, and of a line only as much is kept as its refusal needs.
-ghost use Rattle.listen.specs.Waiting.{Waiting, Comes};
+ghost use mathlib.Core.Path.{_≡_};
+ghost use Rattle.listen.specs.Waiting.{Waiting, Comes, faultOf};
+use command::Refusal;
 
 // So many bytes of a line are looked at: one more than the longest has.
 pub const SEEN: usize = 257;
@@ -26,4 +28,14 @@ pub fn put_kept(waiting: &mut [u8], len: usize, s: &[u8]) -> usize
         }
     }
     n
+}
+
+// Why a line is refused of which so many bytes are kept, and a control byte is among them.
+pub fn fault_of(n: usize) -> Refusal
+    ensures { λ r. ⌜ r ≡ faultOf n ⌝ }
+{
+    if n == SEEN {
+        return Refusal::TooLong;
+    }
+    Refusal::ControlByte
 }

@@ -41,7 +41,7 @@ defined-more v (b ∷ above) more d e =
     either (sameValue v (valueOf b)) (λ y. rw y (rw y at e)) (λ n. rw n (defined-more v above more d (rw n at e)))
 
 -- a definition in range has a len of at most 99
-len-range : (d : Define) → Held (defineRanges d) → lenOf d ≤ 99
+pub len-range : (d : Define) → Held (defineRanges d) → lenOf d ≤ 99
 unfolding defineRanges lenOf
 len-range (counting n len letter by prompt) h = omega (tests, h .1 .0 .1 .0)
 len-range (varying n len letter prompt) h = omega (tests, h .1 .0 .1 .0)

@@ -27,7 +27,7 @@ unfolding long
 first-all s e = take-all 257 s (omega (arith, ltb-false 256 (length s) e))
 
 -- what depends on a long line only by its being long
-read-first : (width : ℕ) (s : List ℕ) → read width (take 257 s) ≡ read width s
+pub read-first : (width : ℕ) (s : List ℕ) → read width (take 257 s) ≡ read width s
 unfolding read
 read-first width s =
     either (long s) (λ y. if-true _ _ _ (first-long s y) ∙ sym (if-true _ _ _ y)) (λ n. rw (first-all s n))

@@ -19,7 +19,7 @@ use Rattle.session.specs.Memory.{Session, Shelf, sessionOf, drafts, drafting, p
 use Rattle.session.specs.Outcome.{At, Kept, Planned, Showing}
 use Rattle.session.specs.declared.state.Mode.{Mode}
 use Rattle.session.specs.declared.state.Held.{Held}
-use Rattle.session.proofs.Parted.{lies-before, text-ends, text-part, plan-part, plans-length}
+use Rattle.session.proofs.Parted.{lies-before, text-ends, text-part, plan-part, plans-of, plans-whole}
 use Rattle.session.proofs.Entries.{entries-used}
 use Rattle.session.proofs.Used.{padded-front, kept-used, fills-inside}
 
@@ -67,22 +67,12 @@ text-few fs n (P.answering ls given) s o = omega (arith, text-ends fs n ls o, s 
 text-few fs n (P.ready ls given) s o = omega (arith, text-ends fs n ls o, s .room)
 text-few fs n (P.printing ls given k c i) s o = omega (arith, text-ends fs n ls o, s .room)
 
--- the plans in memory
-plans-of : (shelf : Shelf) (fs : List Form) → shelf ≡ packedShelf fs → shelf .plans ≡ padded 1856 (plansOf fs)
-unfolding packedShelf
-plans-of shelf fs e = ap (λ x. x .plans) e
-
--- and the texts
+-- the texts in memory
 texts-of : (shelf : Shelf) (fs : List Form) → shelf ≡ packedShelf fs → shelf .store .text ≡ padded 4096 (textsOf (entriesOf fs))
 unfolding packedShelf packed
 texts-of shelf fs e = ap (λ x. x .store .text) e
 
 -- have their room
-plans-whole : (shelf : Shelf) (fs : List Form) → shelf ≡ packedShelf fs → Stored width fs → length (shelf .plans) ≡ 1856
-plans-whole shelf fs e s =
-    let few : length (plansOf fs) ≤ 1856 = omega (arith, plans-length fs (s .each), s .few) in
-    rw (plans-of shelf fs e) (padded-length 1856 (plansOf fs) few)
-
 texts-whole : (shelf : Shelf) (fs : List Form) → shelf ≡ packedShelf fs → Stored width fs → length (shelf .store .text) ≡ 4096
 texts-whole shelf fs e s =
     let few : length (textsOf (entriesOf fs)) ≤ 4096 = omega (arith, entries-used fs, s .room) in

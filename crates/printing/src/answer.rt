@@ -9,6 +9,7 @@ ghost use Rattle.session.specs.Outcome.{Kept, Planned, Minds, Answers, waitsBy,
 ghost use Rattle.session.specs.declared.state.Mode.the-variants as M;
 use command::Refusal;
 use form::plan::PLAN;
+use line::read::LINE;
 use session::state::Held;
 use session::state::Mode;
 use session::state::Turn;
@@ -19,9 +20,6 @@ use set::answer::Value;
 use set::answer::judged;
 use set::answer::note_value;
 use text::write::put_all;
-
-// The longest line.
-const LINE: usize = 256;
 
 // `?` asks for the first answer of an opened form.
 pub fn ask(

@@ -40,11 +40,11 @@ pub record Sized (old new : Memory) : Type 0 where
   pub values : length (new .values) ≡ length (old .values)
   pub held : length (new .held) ≡ length (old .held)
 
-sized-same : (m : Memory) → Sized m m
+pub sized-same : (m : Memory) → Sized m m
 sized-same m =
     record { all = refl; names = refl; texts = refl; lens = refl; plans = refl; filed = refl; name = refl; text = refl; answers = refl; values = refl; held = refl }
 
-sized-then : {a b d : Memory} → Sized a b → Sized b d → Sized a d
+pub sized-then : {a b d : Memory} → Sized a b → Sized b d → Sized a d
 sized-then s t =
     record {
       all = t .all ∙ s .all;

@@ -14,10 +14,11 @@ use Rattle.paper.specs.Command as P
 use Rattle.paper.specs.Command.{FormLine}
 use Rattle.paper.specs.Form.{Form, textOf, asked, find, used, withinLimits}
 use Rattle.paper.specs.Write.{drawText, defineText}
-use Rattle.paper.specs.State.{Storable, AllStored}
+use Rattle.paper.specs.State.{Storable, AllStored, Stored}
 use Rattle.paper.proofs.Law.{and-right}
 use Rattle.paper.proofs.Test.{either}
 use Rattle.text.specs.Write.{padded}
+use Rattle.text.proofs.Padded.{padded-length}
 use Rattle.command.specs.View.{width}
 use Rattle.form.specs.Plan.{Shows, nothing, value, showsOf, givesWay, Piece, unlessNone, ifValue, opensAt, past, pieces, planOf}
 use Rattle.form.specs.Noting.{planIn}
@@ -25,7 +26,7 @@ use Rattle.form.proofs.Memory.{holds-whole}
 use Rattle.form.proofs.Distinct.{asked-few}
 use Rattle.store.specs.Packed.{entry, textsOf}
 use Rattle.set.proofs.Planned.{plan-asks}
-use Rattle.session.specs.Memory.{placeOf, entriesOf, plansOf, Lies}
+use Rattle.session.specs.Memory.{Shelf, placeOf, entriesOf, plansOf, packedShelf, Lies}
 
 -- a line closes at most one piece
 unless-more : (t : Bool) (p : Piece) (ps : List Piece) → length (unlessNone t p ps) ≤ length ps + 1
@@ -130,6 +131,15 @@ pub plans-both : (fs gs : List Form) → plansOf (fs ++ gs) ≡ plansOf fs ++ pl
 unfolding plansOf
 plans-both [] gs = refl
 plans-both (f ∷ fs) gs = rw (plans-both fs gs, append-assoc)
+
+-- in memory
+pub plans-of : (shelf : Shelf) (fs : List Form) → shelf ≡ packedShelf fs → shelf .plans ≡ padded 1856 (plansOf fs)
+unfolding packedShelf
+plans-of shelf fs e = ap (λ x. x .plans) e
+
+-- where they have their room
+pub plans-whole : (shelf : Shelf) (fs : List Form) → shelf ≡ packedShelf fs → Stored width fs → length (shelf .plans) ≡ 1856
+plans-whole shelf fs e s = rw (plans-of shelf fs e) (padded-length 1856 (plansOf fs) (omega (arith, plans-length fs (s .each), s .few)))
 
 -- a form between others has its number
 pub lies-between : (before : List Form) (here : Form) (behind : List Form) → Lies (before ++ (here ∷ behind)) (length before) (here .lines)

@@ -20,6 +20,7 @@ use Rattle.paper.proofs.Test.{Held, held, either, tests}
 use Rattle.paper.proofs.Filled.{broken-cons, defined-more}
 use Rattle.command.specs.View.{width}
 use Rattle.set.specs.Answers.{answersText}
+use Rattle.set.proofs.Defining.{fits-len}
 
 -- the room that is left for a value: all of it, or none where it is defined
 unfoldable slot : ℕ → Option Define → ℕ
@@ -93,12 +94,6 @@ left-taken above (varying n len letter prompt) h e =
     let d = varying n len letter prompt in
     omega
     (tests, h .1 .0 .1 .0, slots-taken variable 100 16 n above d (eq-eqb n n refl) (omega (tests, h .0 .0)) e, slots-less counter 10 10 above (d ∷ []))
-
--- an answer that fits has at most so many bytes
-fits-len : (d : Define) (a : List ℕ) → fits d a ≡ true → length a ≤ lenOf d
-unfolding fits lenOf
-fits-len (counting n len letter by prompt) a e = leb-true _ _ (and-right (leb 1 (length a)) _ (and-left _ _ e))
-fits-len (varying n len letter prompt) a e = leb-true _ _ (and-left _ _ e)
 
 -- answers to the first definitions of a form's lines have the room that is left above them
 given-room : (k : ℕ) (above : List Define) (ls : List FormLine) (given : List (List ℕ)) → allIn width ls ≡ true → firstBroken k above ls ≡ none

@@ -35,28 +35,6 @@ fitting-append [] (b ∷ given) d a e f = absurd (false≢true e)
 fitting-append (x ∷ ds) [] d a e f = absurd (false≢true e)
 fitting-append (x ∷ ds) (b ∷ given) d a e f = rw (and-left (fits x b) _ e) (fitting-append ds given d a (and-right (fits x b) _ e) f)
 
--- no answer yet
-pub answering-begins : (ls : List FormLine) → Answering (replicate 104 0) ls 0 []
-unfolding valuesIn valuesFrom fitting
-answering-begins ls = record { count = refl; valued = refl; fit = refl }
-
--- one more
-pub answering-more : (plan old new : List ℕ) (k first second : ℕ) (t : Asking plan k) (given : List (List ℕ)) (a : List ℕ) → Answering old (t .lines) k given → fits (t .define) a ≡ true
-    → first ≡ firstOf (t .define) a (length (answersText given)) → second ≡ secondOf (t .define) a (length (answersText given)) → Notes old plan k first second new
-    → Answering new (t .lines) (k + 1) (given ++ (a ∷ []))
-answering-more plan old new k first second t given a g f p q n =
-    record {
-      count = omega (arith, g .count, length-append given (a ∷ []));
-      valued = n .notes t given a g p q;
-      fit = rw (take-more (asked (t .lines)) k (t .define) (t .more) (t .is)) (fitting-append (take k (asked (t .lines))) given (t .define) a (g .fit) f);
-    }
-
--- all of them
-pub answering-ends : (plan values : List ℕ) (ls : List FormLine) (k : ℕ) (given : List (List ℕ)) → plan ≡ planOf ls → Storable width ls → Answering values ls k given → length (asked ls) ≤ k → Filled plan values
-answering-ends plan values ls k given e s g h =
-    let all : take k (asked ls) ≡ asked ls = take-all k (asked ls) h in
-    record { lines = ls; given = given; planned = e; valued = rw all at (g .valued); storable = s; fit = rw all at (g .fit) }
-
 -- an answer of which something is kept fits, and it is its two numbers
 pub judged-kept : (d : P.Define) (a : List ℕ) (given first second : ℕ) → Kept first second ≡ judgedAs d a given
     → (fits d a ≡ true) × (first ≡ firstOf d a given) × (second ≡ secondOf d a given)

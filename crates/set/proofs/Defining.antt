@@ -41,28 +41,25 @@ len-small (P.counting n len letter (P.up by) prompt) e k = counting-len n len le
 len-small (P.counting n len letter (P.down by) prompt) e k = counting-len n len letter (P.down by) prompt e
 len-small (P.varying n len letter prompt) e k = absurd (k refl)
 
--- any len
-pub len-most : (d : P.Define) → allOf (defineRanges d) ≡ true → lenOf d ≤ 99
-unfolding lenOf defineRanges
-len-most (P.counting n len letter by prompt) e = omega (tests, held (defineRanges (P.counting n len letter by prompt)) e .1 .0 .1 .0)
-len-most (P.varying n len letter prompt) e = omega (tests, held (defineRanges (P.varying n len letter prompt)) e .1 .0 .1 .0)
-
 -- what fits a counter
 fits-digits : (n len letter : ℕ) (by : P.Step) (prompt a : List ℕ) → fits (P.counting n len letter by prompt) a ≡ true → every isDigit a ≡ true
 unfolding fits
 fits-digits n len letter by prompt a f = and-right (leb 1 (length a) && leb (length a) len) _ f
 
-fits-short : (n len letter : ℕ) (by : P.Step) (prompt a : List ℕ) → fits (P.counting n len letter by prompt) a ≡ true → length a ≤ len
-unfolding fits
-fits-short n len letter by prompt a f = leb-true (length a) len (and-right (leb 1 (length a)) _ (and-left _ (every isDigit a) f))
+-- what fits any definition has at most so many bytes
+pub fits-len : (d : P.Define) (a : List ℕ) → fits d a ≡ true → length a ≤ lenOf d
+unfolding fits lenOf
+fits-len (P.counting n len letter by prompt) a f = leb-true (length a) len (and-right (leb 1 (length a)) _ (and-left _ (every isDigit a) f))
+fits-len (P.varying n len letter prompt) a f = leb-true (length a) len (and-left _ _ f)
 
--- is below a power of ten
+-- what fits a counter is below a power of ten
 fits-below : (n len letter : ℕ) (by : P.Step) (prompt a : List ℕ) → fits (P.counting n len letter by prompt) a ≡ true → amount 0 a < 10 ^ len
+unfolding lenOf
 fits-below n len letter by prompt a f =
     let zero-small : 0 < 10 ^ 0 = rw pow-zero (omega arith) in
     let front : 0 + length a ≡ length a = omega arith in
     let below : amount 0 a < 10 ^ length a = rw front at (amount-below a 0 0 zero-small (fits-digits n len letter by prompt a f)) in
-    omega (arith, pow-le-pow-right {n = 10} (omega arith) {i = length a} {j = len} (fits-short n len letter by prompt a f))
+    omega (arith, pow-le-pow-right {n = 10} (omega arith) {i = length a} {j = len} (fits-len (P.counting n len letter by prompt) a f))
 
 pub first-small : (d : P.Define) (a : List ℕ) (place : ℕ) → allOf (defineRanges d) ≡ true → fits d a ≡ true → (kindOf d ≡ 2 → ⊥) → firstOf d a place < 1000000000
 unfolding firstOf kindOf

@@ -1,10 +1,9 @@
 -- An answer to a definition of a plan: the tests of the code decide whether it fits, and what is kept of it is noted at its value.
 use Prim.Native.Nat.{ℕ, zero, suc, _+_, _*_, _≤_, _<_}
 use mathlib.Core.Path.{_≡_, refl, sym, _∙_, ap}
-use mathlib.Core.Bool.{true, false, and-false, true≢false}
+use mathlib.Core.Bool.{true, false, and-false}
 use mathlib.Core.List.{List, [], _∷_, _++_}
 use native.Mathlib.Omega.{arith}
-use native.Mathlib.Decide.{decLt}
 use lib.ListN.{length, take, drop, getD, replicate}
 use borrow.Author.Tests.{le-leb, lt-leb}
 use Rattle.paper.specs.Byte.{every}
@@ -14,7 +13,8 @@ use Rattle.paper.specs.Command.{FormLine, isShown, defineRanges, allOf}
 use Rattle.paper.specs.Form.{asked, valueOf, lenOf}
 use Rattle.paper.specs.Set.{amount, fits}
 use Rattle.paper.proofs.Law.{if-true, if-false}
-use Rattle.paper.proofs.Test.{either}
+use Rattle.paper.proofs.Test.{either, held}
+use Rattle.paper.proofs.Filled.{len-range}
 use Rattle.command.specs.View.{width}
 use Rattle.form.specs.Plan.{numberOf, kindOf, stepSize, fourAt, planOf}
 use Rattle.set.specs.Answers.{answersText, firstOf, secondOf, withAnswer, valuesIn}
@@ -24,7 +24,7 @@ use Rattle.set.specs.declared.answer.Value.the-variants.{Kept, Unfit}
 use Rattle.set.specs.declared.answer.Amount.{Amount}
 use Rattle.set.specs.declared.answer.Amount.the-variants.{Is, Not}
 use Rattle.form.proofs.Distinct.{Ranged, ranged, small, number-below}
-use Rattle.set.proofs.Defining.{len-small, len-most}
+use Rattle.set.proofs.Defining.{len-small, fits-len}
 use Rattle.set.proofs.Keeping.{from-more}
 use Rattle.set.proofs.Planned.{Defined, plan-define}
 
@@ -47,9 +47,7 @@ defined-of plan ls k d more e q = rw e (plan-define ls k d more q)
 
 -- an answer by its length and its bytes
 fits-long : (d : P.Define) (a : List ℕ) → lenOf d < length a → fits d a ≡ false
-unfolding fits lenOf
-fits-long (P.counting n len letter by prompt) a h = rw (lt-leb (length a) len h, and-false)
-fits-long (P.varying n len letter prompt) a h = rw (lt-leb (length a) len h)
+fits-long d a h = either (fits d a) (λ y. absurd (omega (arith, fits-len d a y))) (λ n. n)
 
 fits-empty : (d : P.Define) (a : List ℕ) → (kindOf d ≡ 2 → ⊥) → length a < 1 → fits d a ≡ false
 unfolding fits kindOf
@@ -119,11 +117,7 @@ module _ (plan : List ℕ) (k : ℕ) where
 
   -- what fits it is short
   pub ask-short : (a : List ℕ) (t : Asking plan k) → fits (t .define) a ≡ true → length a ≤ 99
-  ask-short a t f =
-      elim (decLt (lenOf (t .define)) (length a)) [
-        | yes more ↦ absurd (true≢false (sym f ∙ fits-long (t .define) a more))
-        | no few ↦ omega (arith, len-most (t .define) (in-range t))
-      ]
+  ask-short a t f = omega (arith, fits-len (t .define) a f, len-range (t .define) (held (defineRanges (t .define)) (in-range t)))
 
   module _ (a : List ℕ) (given : ℕ) where
     pub judged-long : getD plan (2 + k * 4 + 1) 0 < length a → Judges plan k a given Unfit

@@ -109,11 +109,6 @@ pub size-room : (self : Store) (k : Kept self) (i start : ℕ) → i < self .cou
     → start + getD (self .texts) i 0 ≤ 4096
 size-room self k i start h e = omega (arith, size-at self k i h, text-room self k i h)
 
--- the part of a text between two places
-pub part-between : (text : List ℕ) (start size : ℕ) → take (start + size - start) (drop start text) ≡ bytesAt text start size
-unfolding bytesAt
-part-between text start size = let is : start + size - start ≡ size = omega arith in rw is
-
 -- as many bytes are used as the texts have
 pub uses : (self : Store) (k : Kept self) → self .used ≡ length (textsOf (k .forms))
 unfolding packed

@@ -3,7 +3,7 @@ use Prim.Native.Nat.{ℕ, _+_, _≤_, _<_}
 use mathlib.Core.Path.{_≡_}
 use mathlib.Core.List.{List, [], _∷_, _++_}
 use lib.ListN.{length}
-use Rattle.store.specs.Packed.{Store, Entry, entry, textsOf, packed, Kept, findFrom, withoutIn, linesOf, listingOf}
+use Rattle.store.specs.Packed.{Store, Entry, entry, textsOf, packed, Kept, findFrom, linesOf, listingOf}
 use Rattle.text.specs.Write.{Writes}
 use Rattle.store.specs.declared.Filed.{Filed}
 use Rattle.store.specs.declared.Found.{Found}
@@ -54,16 +54,6 @@ pub record Stands (store : Store) (index start size : ℕ) : Type 0 where
 -- it leaves, and the others stay
 pub record Leaves (store : Store) (index start size : ℕ) (rest : Store) : Type 0 where
   pub leaves : (s : Stands store index start size) → rest ≡ packed (s .before ++ s .behind)
-
--- no two forms have one name: leaving out a form's name leaves those behind it
-abbrev pub Distinct : List Entry → Type 0
-Distinct [] = Unit
-Distinct (e ∷ es) = (withoutIn (e .name) es ≡ es) × Distinct es
-
--- the form of a name stands there, and those before and behind it are the forms but that of the name
-pub record Standing (store : Store) (k : Stocked store) (name : List ℕ) (index start size : ℕ) : Type 0 where
-  pub stands : Stands store index start size
-  pub rest : stands .before ++ stands .behind ≡ withoutIn name (k .kept .forms)
 
 -- no form is there
 abbrev pub Clears : Store → Type 0

@@ -77,11 +77,6 @@ findFrom i start name (e ∷ es) =
     At i start (length (e .text))
     else findFrom (suc i) (start + length (e .text)) name es
 
--- the forms but that of a name
-unfoldable pub withoutIn : List ℕ → List Entry → List Entry
-withoutIn name [] = []
-withoutIn name (e ∷ es) = if same name (e .name) then withoutIn name es else (e ∷ withoutIn name es)
-
 -- the names, each on a line
 unfoldable pub linesOf : List Entry → List ℕ
 linesOf [] = []

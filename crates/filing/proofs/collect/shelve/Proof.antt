@@ -1,7 +1,8 @@
 -- The text is checked, its plan is made behind the others, and the store takes the form.
 use native.Mathlib.Omega.{arith}
 use borrow.Author.Needs.{needs}
-use Rattle.filing.proofs.Collecting.{text-front, name-front, at-stocked, shelves-unsound, shelves-full, room-spare, plan-inside, draft-plannable, shelves-stored}
+use Rattle.filing.proofs.Clearing.{at-stocked}
+use Rattle.filing.proofs.Collecting.{text-front, name-front, shelves-unsound, shelves-full, room-spare, plan-inside, draft-plannable, shelves-stored}
 use Rattle.filing.proofs.collect.shelve.Statement.{statement}
 use Rattle.filing.proofs.collect.shelve.Tie as tie
 

@@ -34,6 +34,9 @@ refusalFor R.unfit = W.Unfit
 refusalFor R.overrun = W.Overrun
 refusalFor R.tooShort = W.TooShort
 refusalFor R.notPrinting = W.NotPrinting
+refusalFor R.othersCollect = W.OthersCollect
+refusalFor R.noTablet = W.NoTablet
+refusalFor R.heldOpen = W.HeldOpen
 
 -- it is the one with that word
 refusal-back : (why : Refusal) → refusalFor (refusalOf why) ≡ why
@@ -54,6 +57,9 @@ refusal-back W.Unfit = refl
 refusal-back W.Overrun = refl
 refusal-back W.TooShort = refl
 refusal-back W.NotPrinting = refl
+refusal-back W.OthersCollect = refl
+refusal-back W.NoTablet = refl
+refusal-back W.HeldOpen = refl
 
 -- two answers that report the same are one
 reports-one : (a : R.Answer) (r r′ : Answer) → Reports r a → Reports r′ a → r ≡ r′

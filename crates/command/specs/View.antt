@@ -45,6 +45,9 @@ refusalOf W.Unfit = R.unfit
 refusalOf W.Overrun = R.overrun
 refusalOf W.TooShort = R.tooShort
 refusalOf W.NotPrinting = R.notPrinting
+refusalOf W.OthersCollect = R.othersCollect
+refusalOf W.NoTablet = R.noTablet
+refusalOf W.HeldOpen = R.heldOpen
 
 -- the text of a string that stands in a line
 unfoldable pub textIn : List ℕ → Span → List ℕ

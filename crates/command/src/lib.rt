@@ -22,6 +22,9 @@ pub enum Refusal {
     Overrun,
     TooShort,
     NotPrinting,
+    OthersCollect,
+    NoTablet,
+    HeldOpen,
 }
 
 // The five kinds of content of a text.

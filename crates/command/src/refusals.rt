@@ -25,5 +25,8 @@ pub fn number_of(why: Refusal) -> usize
         Refusal::Overrun => 14,
         Refusal::TooShort => 15,
         Refusal::NotPrinting => 16,
+        Refusal::OthersCollect => 17,
+        Refusal::NoTablet => 18,
+        Refusal::HeldOpen => 19,
     }
 }

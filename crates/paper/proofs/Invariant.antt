@@ -14,7 +14,7 @@ use borrow.Author.Tests.{leb-true, ltb-true, eqb-false}
 use Rattle.paper.specs.Byte.{if_then_else_, same}
 use Rattle.paper.specs.Line.{kept, long, control}
 use Rattle.paper.specs.Command.{Define, FormLine, Filing, start, finish, inform, recall, delete, Command, empty, new, keep, file, ask, print, filingRanges, ranges, inRange, isName, star}
-use Rattle.paper.specs.Refusal.{Refusal, tooLong, controlByte, notNow, unknown, malformed, outOfRange, overfull, isSpoiled, unsound, nameTaken, noRoom, absent, unfit, overrun, tooShort, notPrinting, accepted, refused}
+use Rattle.paper.specs.Refusal.{Refusal, tooLong, controlByte, notNow, unknown, malformed, outOfRange, overfull, isSpoiled, unsound, nameTaken, noRoom, absent, unfit, overrun, tooShort, notPrinting, othersCollect, noTablet, heldOpen, accepted, refused}
 use Rattle.paper.specs.Read.{Shape, shaped, strange, broken, shape, Reading, command, unread, judged, read}
 use Rattle.paper.specs.Write.{linesText}
 use Rattle.paper.specs.Form.{Form, textOf, withinLimits, asked, isSome, unsoundAt, find, used, hasRoom, stored}
@@ -120,6 +120,9 @@ endsForm unfit = false
 endsForm overrun = false
 endsForm tooShort = false
 endsForm notPrinting = false
+endsForm othersCollect = false
+endsForm noTablet = false
+endsForm heldOpen = false
 
 -- what a refused line leaves of a session
 unfoldable pub leftBy : Session → Refusal → Session

@@ -80,12 +80,12 @@ find-named width name (f ∷ fs) ls h e =
     (λ n. find-named width name fs ls (h .3) (rw n at e))
 
 -- a line that may be an answer: neither too long nor with a byte below 20H
-record Sendable (a : List ℕ) : Type 0 where
-  short : long a ≡ false
-  clear : control a ≡ false
+pub record Sendable (a : List ℕ) : Type 0 where
+  pub short : long a ≡ false
+  pub clear : control a ≡ false
 
 -- a fitting answer is one
-fits-sendable : (d : Define) (a : List ℕ) → allOf (defineRanges d) ≡ true → fits d a ≡ true → Sendable a
+pub fits-sendable : (d : Define) (a : List ℕ) → allOf (defineRanges d) ≡ true → fits d a ≡ true → Sendable a
 unfolding fits defineRanges long isDigit isShown
 fits-sendable (counting n len letter by prompt) a r e =
     let h = held _ r in
@@ -103,19 +103,19 @@ fits-sendable (varying n len letter prompt) a r e =
     }
 
 -- definitions in range
-abbrev InRange : List Define → Type 0
+abbrev pub InRange : List Define → Type 0
 InRange [] = Unit
 InRange (d ∷ ds) = (allOf (defineRanges d) ≡ true) × InRange ds
 
 -- so are those of a form in range
-asked-range : (width : ℕ) (ls : List FormLine) → allIn width ls ≡ true → InRange (asked ls)
+pub asked-range : (width : ℕ) (ls : List FormLine) → allIn width ls ≡ true → InRange (asked ls)
 unfolding allIn asked inRange ranges
 asked-range width [] e = tt
 asked-range width (draw d ∷ ls) e = asked-range width ls (and-right (allOf (drawRanges width d)) _ e)
 asked-range width (define d ∷ ls) e = (and-left _ _ e, asked-range width ls (and-right (allOf (defineRanges d)) _ e))
 
 -- a list behind so many elements and one more
-drop-more : {A : Type 0} (n : ℕ) (xs ys : List A) (x : A) → drop n xs ≡ x ∷ ys → drop (suc n) xs ≡ ys
+pub drop-more : {A : Type 0} (n : ℕ) (xs ys : List A) (x : A) → drop n xs ≡ x ∷ ys → drop (suc n) xs ≡ ys
 drop-more zero [] ys x e = cc
 drop-more zero (a ∷ xs) ys x e = cc
 drop-more (suc n) [] ys x e = cc

@@ -10,3 +10,6 @@ pub mod Bench
 pub mod Program
 pub mod State
 pub mod Calls
+pub mod Class
+pub mod Diary
+pub mod ClassProgram

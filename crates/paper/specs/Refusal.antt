@@ -1,4 +1,4 @@
--- 'Refusals by number': a word for each refusal with the number that 01 gives it, and the answer to a call.
+-- 'Refusals by number': a word for each refusal with its number, and the answer to a call.
 use Rattle.paper.specs.Byte.{ℕ, List, [], _∷_, _++_, length, drop}
 
 -- the refusals in the order of their numbers; the ninth names a line of the form
@@ -19,6 +19,9 @@ pub data Refusal : Type 0 where
   overrun : Refusal
   tooShort : Refusal
   notPrinting : Refusal
+  othersCollect : Refusal
+  noTablet : Refusal
+  heldOpen : Refusal
 
 -- the numbers that a refusal gives: its own, and for 9 the form's line
 unfoldable pub figures : Refusal → List ℕ
@@ -38,6 +41,9 @@ figures unfit = 13 ∷ []
 figures overrun = 14 ∷ []
 figures tooShort = 15 ∷ []
 figures notPrinting = 16 ∷ []
+figures othersCollect = 17 ∷ []
+figures noTablet = 18 ∷ []
+figures heldOpen = 19 ∷ []
 
 -- the answer to a call: accepted, with the bytes that it writes to the lent buffer, or refused
 pub data Answer : Type 0 where

@@ -1,12 +1,15 @@
 /*
- * The label bench, written a second time and on its own from document 01, so
- * that the two programs can be compared on many streams.
+ * The label bench, written a second time and on its own from document 01 and
+ * request L6, so that two programs can be compared on many streams.
  *
- * Standard input is a stream of lines; replies and print sets go to standard
- * output, and one line for each refusal goes to standard error.
+ * Standard input is a stream of lines, all of tablet 0; replies and print sets
+ * go to standard output, and one line for each refusal goes to standard error.
+ * With the argument `class` each line names its tablet or is the printer's take,
+ * and one record for each goes to standard output.
  *
  * The file follows 01: limits, lines and strings, commands and their ranges,
- * the normal form, the form store, soundness, answers, sets, states, program.
+ * the normal form, the form store, soundness, answers, sets, states, the turn
+ * of L6, and the program with its two kinds of lines.
  */
 #define _POSIX_C_SOURCE 200809L
 
@@ -21,6 +24,7 @@
 typedef unsigned char byte;
 
 enum {
+    TABLETS = 30,
     LINE_BYTES = 256,   /* a line, its LF not counted */
     STORE_BYTES = 4096, /* form text in the whole store */
     STORE_FORMS = 8,
@@ -34,6 +38,7 @@ enum {
     VARIABLE_BYTES = 99,
     LAST_X = 811,
     LAST_Y = 8728,
+    ROOM_BYTES = 10291, /* what a take has for its set where it says nothing */
     BUFFER_BYTES = 1 << 16
 };
 
@@ -52,7 +57,12 @@ enum refusal {
     STORE_FULL = 11,
     NAME_ABSENT = 12,
     ANSWER_UNFIT = 13,
-    COUNTER_LEAVES = 14
+    COUNTER_LEAVES = 14,
+    SET_TOO_LONG = 15,
+    NONE_PRINTING = 16,
+    OTHER_COLLECTS = 17,
+    NO_TABLET = 18,
+    FORM_HELD = 19
 };
 
 /* ---- Output: two buffered streams ------------------------------------- */
@@ -107,23 +117,14 @@ static void put_number(struct output *out, uint64_t value, int least_digits)
 
 /* One line as it came in, CR and 1AH already dropped. */
 struct line {
+    const byte *bytes;
     size_t length;
-    bool over; /* more bytes came than a line may have; they are not kept */
-    byte bytes[LINE_BYTES];
 };
-
-static void add_byte(struct line *line, byte b)
-{
-    if (line->length < LINE_BYTES)
-        line->bytes[line->length++] = b;
-    else
-        line->over = true;
-}
 
 /* The two refusals that apply to a line in every state. */
 static enum refusal judge_bytes(const struct line *line)
 {
-    if (line->over)
+    if (line->length > LINE_BYTES)
         return LINE_TOO_LONG;
     for (size_t i = 0; i < line->length; i++)
         if (line->bytes[i] < 0x20)
@@ -695,14 +696,18 @@ struct variable {
 
 enum state { IDLE, COLLECTING, OPEN, ANSWERING, READY, PRINTING };
 
-struct bench {
-    enum state state;
+struct store {
     struct form room[STORE_FORMS + 1];
     /* The stored forms in the order stored, then the free rooms. The one right
        after the stored ones is where a form is collected. */
     struct form *forms[STORE_FORMS + 1];
     int stored;
     size_t bytes_left;
+};
+
+/* What a tablet has of its own. */
+struct session {
+    enum state state;
     bool spoiled;
     const struct form *open;
     int next_line; /* of the open form: the definition that waits for an answer */
@@ -713,18 +718,26 @@ struct bench {
     int copies;
 };
 
+struct bench {
+    struct store store;
+    struct session sessions[TABLETS];
+    int last_served;
+};
+
 static void start_bench(struct bench *bench)
 {
-    bench->state = IDLE;
-    bench->stored = 0;
-    bench->bytes_left = STORE_BYTES;
+    for (int i = 0; i < TABLETS; i++)
+        bench->sessions[i].state = IDLE;
+    bench->store.stored = 0;
+    bench->store.bytes_left = STORE_BYTES;
     for (int i = 0; i <= STORE_FORMS; i++)
-        bench->forms[i] = &bench->room[i];
+        bench->store.forms[i] = &bench->store.room[i];
+    bench->last_served = TABLETS - 1; /* the first turn starts from 0 */
 }
 
-static struct form *collected(struct bench *bench)
+static struct form *collected(struct store *store)
 {
-    return bench->forms[bench->stored];
+    return store->forms[store->stored];
 }
 
 static bool has_name(const struct form *form, const struct command *command)
@@ -734,58 +747,95 @@ static bool has_name(const struct form *form, const struct command *command)
 }
 
 /* The place of the named form among the stored ones, or their count. */
-static int find_form(const struct bench *bench, const struct command *command)
+static int find_form(const struct store *store, const struct command *command)
 {
     int i = 0;
-    while (i < bench->stored && !has_name(bench->forms[i], command))
+    while (i < store->stored && !has_name(store->forms[i], command))
         i++;
     return i;
 }
 
-/* The others keep their order; the room freed becomes the first free one. */
-static void delete_form(struct bench *bench, int which)
+/* The others keep their order. All that follows moves down, the room of a form
+   that is being collected too, and the room freed becomes the last one. */
+static void delete_form(struct store *store, int which)
 {
-    struct form *form = bench->forms[which];
-    bench->bytes_left += form->text_length;
-    bench->stored--;
-    for (int i = which; i < bench->stored; i++)
-        bench->forms[i] = bench->forms[i + 1];
-    bench->forms[bench->stored] = form;
+    struct form *form = store->forms[which];
+    store->bytes_left += form->text_length;
+    store->stored--;
+    for (int i = which; i < STORE_FORMS; i++)
+        store->forms[i] = store->forms[i + 1];
+    store->forms[STORE_FORMS] = form;
 }
 
-static void delete_forms(struct bench *bench, const struct command *command)
+static bool holds_open(const struct session *session)
 {
-    int which = find_form(bench, command);
-    if (is_star(command)) {
-        bench->stored = 0;
-        bench->bytes_left = STORE_BYTES;
-    } else if (which < bench->stored) {
-        delete_form(bench, which);
-    }
+    return session->state != IDLE && session->state != COLLECTING;
 }
 
-static void put_form_information(struct output *out, const struct bench *bench)
+/* The tablet that asks the next two is Idle, so what they find is another. */
+
+static bool is_collecting(const struct bench *bench)
+{
+    for (int i = 0; i < TABLETS; i++)
+        if (bench->sessions[i].state == COLLECTING)
+            return true;
+    return false;
+}
+
+/* Whether a tablet holds this form open, or any form where none is given. */
+static bool is_held(const struct bench *bench, const struct form *form)
+{
+    for (int i = 0; i < TABLETS; i++)
+        if (holds_open(&bench->sessions[i]) && (form == NULL || bench->sessions[i].open == form))
+            return true;
+    return false;
+}
+
+static enum refusal delete_all(struct bench *bench)
+{
+    if (is_held(bench, NULL))
+        return FORM_HELD;
+    while (bench->store.stored > 0)
+        delete_form(&bench->store, 0);
+    return ACCEPTED;
+}
+
+static enum refusal delete_named(struct bench *bench, const struct command *command)
+{
+    int which = find_form(&bench->store, command);
+    if (which == bench->store.stored)
+        return ACCEPTED;
+    if (is_held(bench, bench->store.forms[which]))
+        return FORM_HELD;
+    delete_form(&bench->store, which);
+    return ACCEPTED;
+}
+
+static void put_form_information(struct output *out, const struct store *store)
 {
     put_text(out, "Form Information:\n");
-    if (bench->stored == 0)
+    if (store->stored == 0)
         put_text(out, "No Form Stored\n");
-    for (int i = 0; i < bench->stored; i++) {
-        put(out, bench->forms[i]->name, bench->forms[i]->name_length);
+    for (int i = 0; i < store->stored; i++) {
+        put(out, store->forms[i]->name, store->forms[i]->name_length);
         put_text(out, "\n");
     }
 }
 
-static enum refusal start_form(struct bench *bench, const struct command *command)
+static enum refusal start_form(struct bench *bench, struct session *session,
+                               const struct command *command)
 {
-    if (find_form(bench, command) < bench->stored)
+    if (find_form(&bench->store, command) < bench->store.stored)
         return NAME_STORED;
-    struct form *form = collected(bench);
+    if (is_collecting(bench))
+        return OTHER_COLLECTS;
+    struct form *form = collected(&bench->store);
     form->name_length = command->string_length;
     memcpy(form->name, command->string, command->string_length);
     form->line_count = 0;
     form->text_length = 0;
-    bench->spoiled = false;
-    bench->state = COLLECTING;
+    session->spoiled = false;
+    session->state = COLLECTING;
     return ACCEPTED;
 }
 
@@ -875,41 +925,42 @@ static int unsound_line(const struct form *form)
 }
 
 /* FE. Whatever comes of it, collecting is over (Refusals by number). */
-static enum refusal end_form(struct bench *bench, int *breaking_line)
+static enum refusal end_form(struct store *store, struct session *session, int *breaking_line)
 {
-    struct form *form = collected(bench);
-    bench->state = IDLE;
-    if (bench->spoiled)
+    struct form *form = collected(store);
+    session->state = IDLE;
+    if (session->spoiled)
         return FORM_SPOILED;
     *breaking_line = unsound_line(form);
     if (*breaking_line != 0)
         return FORM_UNSOUND;
-    if (bench->stored == STORE_FORMS || form->text_length > bench->bytes_left)
+    if (store->stored == STORE_FORMS || form->text_length > store->bytes_left)
         return STORE_FULL;
-    bench->bytes_left -= form->text_length;
-    bench->stored++;
+    store->bytes_left -= form->text_length;
+    store->stored++;
     return ACCEPTED;
 }
 
 /* ---- Answers ---------------------------------------------------------- */
 
 /* Passes over every line that is no definition; true if one is left. */
-static bool find_definition(struct bench *bench)
+static bool find_definition(struct session *session)
 {
-    const struct form *form = bench->open;
-    while (bench->next_line < form->line_count && !is_definition(form->lines[bench->next_line].kind))
-        bench->next_line++;
-    return bench->next_line < form->line_count;
+    const struct form *form = session->open;
+    while (session->next_line < form->line_count && !is_definition(form->lines[session->next_line].kind))
+        session->next_line++;
+    return session->next_line < form->line_count;
 }
 
-static enum refusal open_form(struct bench *bench, const struct command *command)
+static enum refusal open_form(const struct store *store, struct session *session,
+                              const struct command *command)
 {
-    int which = find_form(bench, command);
-    if (which == bench->stored)
+    int which = find_form(store, command);
+    if (which == store->stored)
         return NAME_ABSENT;
-    bench->open = bench->forms[which];
-    bench->next_line = 0;
-    bench->state = find_definition(bench) ? OPEN : READY;
+    session->open = store->forms[which];
+    session->next_line = 0;
+    session->state = find_definition(session) ? OPEN : READY;
     return ACCEPTED;
 }
 
@@ -938,18 +989,18 @@ static enum refusal answer_counter(struct counter *counter, const struct form_li
     return ACCEPTED;
 }
 
-static enum refusal answer(struct bench *bench, const struct line *line)
+static enum refusal answer(struct session *session, const struct line *line)
 {
-    const struct form_line *asked = &bench->open->lines[bench->next_line];
+    const struct form_line *asked = &session->open->lines[session->next_line];
     enum refusal refusal =
         asked->kind == COMMAND_C
-            ? answer_counter(&bench->counters[asked->number], asked, line)
-            : answer_variable(&bench->variables[asked->number], asked, line);
+            ? answer_counter(&session->counters[asked->number], asked, line)
+            : answer_variable(&session->variables[asked->number], asked, line);
     if (refusal != ACCEPTED)
         return refusal;
-    bench->next_line++;
-    if (!find_definition(bench))
-        bench->state = READY;
+    session->next_line++;
+    if (!find_definition(session))
+        session->state = READY;
     return ACCEPTED;
 }
 
@@ -969,85 +1020,92 @@ static int64_t power_of_ten(int exponent)
 }
 
 /* The start fits its len and the values move one way, so the last set tells. */
-static bool counters_stay(const struct bench *bench, int sets)
+static bool counters_stay(const struct session *session, int sets)
 {
-    for (int i = 0; i < bench->open->line_count; i++) {
-        const struct form_line *line = &bench->open->lines[i];
+    for (int i = 0; i < session->open->line_count; i++) {
+        const struct form_line *line = &session->open->lines[i];
         if (line->kind != COMMAND_C)
             continue;
-        int64_t last = counter_value(&bench->counters[line->number], sets - 1);
+        int64_t last = counter_value(&session->counters[line->number], sets - 1);
         if (last < 0 || last >= power_of_ten(line->len))
             return false;
     }
     return true;
 }
 
-static enum refusal print(struct bench *bench, const struct command *command)
+static enum refusal print(struct session *session, const struct command *command)
 {
-    if (!counters_stay(bench, command->number[0]))
+    if (!counters_stay(session, command->number[0]))
         return COUNTER_LEAVES;
-    bench->set = 0;
-    bench->sets = command->number[0];
-    bench->copies = command->number[1];
-    bench->state = PRINTING;
+    session->set = 0;
+    session->sets = command->number[0];
+    session->copies = command->number[1];
+    session->state = PRINTING;
     return ACCEPTED;
 }
 
-static void put_value(struct output *out, const struct bench *bench, const struct form_line *line)
+static void put_value(struct output *out, const struct session *session, const struct form_line *line)
 {
     if (line->value == VARIABLE) {
-        const struct variable *variable = &bench->variables[line->number];
+        const struct variable *variable = &session->variables[line->number];
         put(out, variable->shown, variable->length);
     } else {
-        const struct counter *counter = &bench->counters[line->number];
-        put_number(out, (uint64_t)counter_value(counter, bench->set), counter->digits);
+        const struct counter *counter = &session->counters[line->number];
+        put_number(out, (uint64_t)counter_value(counter, session->set), counter->digits);
     }
 }
 
-static void put_set_line(struct output *out, const struct bench *bench, const struct form_line *line)
+static void put_set_line(struct output *out, const struct session *session, const struct form_line *line)
 {
-    put(out, bench->open->text + line->start, line->fixed);
+    put(out, session->open->text + line->start, line->fixed);
     if (line->value != NO_VALUE) {
         if (!line->has_string)
             put_text(out, "\"");
-        put_value(out, bench, line);
+        put_value(out, session, line);
         put_text(out, "\"");
     }
     put_text(out, "\n");
 }
 
-static void take_set(struct bench *bench, struct output *out)
+static void put_set(struct output *out, const struct session *session)
 {
     put_text(out, "N\n");
-    for (int i = 0; i < bench->open->line_count; i++)
-        if (!is_definition(bench->open->lines[i].kind))
-            put_set_line(out, bench, &bench->open->lines[i]);
+    for (int i = 0; i < session->open->line_count; i++)
+        if (!is_definition(session->open->lines[i].kind))
+            put_set_line(out, session, &session->open->lines[i]);
     put_text(out, "P1,");
-    put_number(out, (uint64_t)bench->copies, 1);
+    put_number(out, (uint64_t)session->copies, 1);
     put_text(out, "\n");
-    bench->set++;
-    if (bench->set == bench->sets)
-        bench->state = IDLE;
+}
+
+/* After the last set of a P comes Idle. */
+static void end_set(struct session *session)
+{
+    session->set++;
+    if (session->set == session->sets)
+        session->state = IDLE;
 }
 
 /* ---- The states ------------------------------------------------------- */
 
-static enum refusal idle(struct bench *bench, const struct command *command, struct output *out)
+static enum refusal idle(struct bench *bench, struct session *session,
+                         const struct command *command, struct output *out)
 {
     switch (command->kind) {
-    case COMMAND_FS: return start_form(bench, command);
-    case COMMAND_FK: delete_forms(bench, command); return ACCEPTED;
-    case COMMAND_FI: put_form_information(out, bench); return ACCEPTED;
-    case COMMAND_FR: return open_form(bench, command);
+    case COMMAND_FS: return start_form(bench, session, command);
+    case COMMAND_FK: return is_star(command) ? delete_all(bench) : delete_named(bench, command);
+    case COMMAND_FI: put_form_information(out, &bench->store); return ACCEPTED;
+    case COMMAND_FR: return open_form(&bench->store, session, command);
     case COMMAND_N: return ACCEPTED;
     default: return NOT_TAKEN_HERE;
     }
 }
 
-static enum refusal collecting(struct bench *bench, const struct command *command, int *breaking_line)
+static enum refusal collecting(struct store *store, struct session *session,
+                               const struct command *command, int *breaking_line)
 {
     switch (command->kind) {
-    case COMMAND_FE: return end_form(bench, breaking_line);
+    case COMMAND_FE: return end_form(store, session, breaking_line);
     case COMMAND_Q:
     case COMMAND_Z:
     case COMMAND_A:
@@ -1056,78 +1114,116 @@ static enum refusal collecting(struct bench *bench, const struct command *comman
     case COMMAND_LW:
     case COMMAND_X:
     case COMMAND_C:
-    case COMMAND_V: return bench->spoiled ? ACCEPTED : keep_line(collected(bench), command);
+    case COMMAND_V: return session->spoiled ? ACCEPTED : keep_line(collected(store), command);
     default: return NOT_TAKEN_HERE;
     }
 }
 
-static enum refusal open_or_ready(struct bench *bench, const struct command *command)
+/* Open, Ready and Printing; in Answering no line is a command. */
+static enum refusal holding(struct session *session, const struct command *command)
 {
     if (command->kind == COMMAND_N) {
-        bench->state = IDLE;
+        session->state = IDLE;
         return ACCEPTED;
     }
-    if (bench->state == OPEN && command->kind == COMMAND_ASK) {
-        bench->state = ANSWERING;
+    if (session->state == OPEN && command->kind == COMMAND_ASK) {
+        session->state = ANSWERING;
         return ACCEPTED;
     }
-    if (bench->state == READY && command->kind == COMMAND_P)
-        return print(bench, command);
+    if (session->state == READY && command->kind == COMMAND_P)
+        return print(session, command);
     return NOT_TAKEN_HERE;
 }
 
-static enum refusal run_command(struct bench *bench, const struct line *line, struct output *out,
-                                 int *breaking_line)
+static enum refusal run_command(struct bench *bench, struct session *session,
+                                const struct line *line, struct output *out, int *breaking_line)
 {
     struct command command;
     enum refusal refusal = read_command(line, &command);
     if (refusal != ACCEPTED || command.kind == EMPTY_LINE)
         return refusal;
-    switch (bench->state) {
-    case IDLE: return idle(bench, &command, out);
-    case COLLECTING: return collecting(bench, &command, breaking_line);
-    default: return open_or_ready(bench, &command);
+    switch (session->state) {
+    case IDLE: return idle(bench, session, &command, out);
+    case COLLECTING: return collecting(&bench->store, session, &command, breaking_line);
+    default: return holding(session, &command);
     }
 }
 
-/* A refused line spoils the form being collected and ends the answering. FE
+/* A refused line spoils the form its tablet collects and ends its answering. FE
    has left Collecting by the time it is refused, so it spoils nothing. */
-static void after_refusal(struct bench *bench)
+static void after_refusal(struct session *session)
 {
-    if (bench->state == COLLECTING)
-        bench->spoiled = true;
-    else if (bench->state == ANSWERING)
-        bench->state = IDLE;
+    if (session->state == COLLECTING)
+        session->spoiled = true;
+    else if (session->state == ANSWERING)
+        session->state = IDLE;
 }
 
-/* One line in any state but Printing, which lasts only while sets are taken. */
-static enum refusal run_line(struct bench *bench, const struct line *line, struct output *out,
-                              int *breaking_line)
+/* One line of a tablet, in any state. */
+static enum refusal run_line(struct bench *bench, int tablet, const struct line *line,
+                             struct output *out, int *breaking_line)
 {
+    if (tablet >= TABLETS)
+        return NO_TABLET;
+    struct session *session = &bench->sessions[tablet];
     enum refusal refusal = judge_bytes(line);
     if (refusal == ACCEPTED)
-        refusal = bench->state == ANSWERING ? answer(bench, line)
-                                            : run_command(bench, line, out, breaking_line);
+        refusal = session->state == ANSWERING
+                      ? answer(session, line)
+                      : run_command(bench, session, line, out, breaking_line);
     if (refusal != ACCEPTED)
-        after_refusal(bench);
+        after_refusal(session);
     return refusal;
+}
+
+/* ---- The turn (L6) ---------------------------------------------------- */
+
+/* The first tablet in Printing after the one last served, which comes last
+   itself; TABLETS if there is none. */
+static int tablet_in_turn(const struct bench *bench)
+{
+    for (int i = 1; i <= TABLETS; i++) {
+        int tablet = (bench->last_served + i) % TABLETS;
+        if (bench->sessions[tablet].state == PRINTING)
+            return tablet;
+    }
+    return TABLETS;
+}
+
+/* The printer's take, into an empty output. What a refused one leaves there
+   does not count. */
+static enum refusal take(struct bench *bench, size_t room, struct output *out, int *tablet)
+{
+    *tablet = tablet_in_turn(bench);
+    if (*tablet == TABLETS)
+        return NONE_PRINTING;
+    put_set(out, &bench->sessions[*tablet]);
+    if (out->length > room)
+        return SET_TOO_LONG;
+    end_set(&bench->sessions[*tablet]);
+    bench->last_served = *tablet;
+    return ACCEPTED;
 }
 
 /* ---- The program ------------------------------------------------------ */
 
+/* A line is kept up to a byte more than it may have, behind the longest name of
+   a tablet and its space: what follows only makes it too long once more. */
+enum { KEPT_BYTES = 6 + LINE_BYTES + 1 };
+
 struct program {
     struct bench bench;
-    struct line line;
+    bool is_class;
+    size_t kept;
+    byte bytes[KEPT_BYTES]; /* of the line that is coming in */
     uint64_t line_number;
     struct output out;
     struct output refusals;
+    struct output reply; /* never written to a descriptor */
 };
 
-static void put_refusal(struct program *program, enum refusal refusal, int breaking_line)
+static void put_refusal(struct output *out, enum refusal refusal, int breaking_line)
 {
-    struct output *out = &program->refusals;
-    put_number(out, program->line_number, 1);
-    put_text(out, " ");
     put_number(out, (uint64_t)refusal, 1);
     if (refusal == FORM_UNSOUND) {
         put_text(out, " ");
@@ -1136,17 +1232,82 @@ static void put_refusal(struct program *program, enum refusal refusal, int break
     put_text(out, "\n");
 }
 
-static void end_line(struct program *program)
+/* The program of 01: every line is tablet 0's, and all sets are taken. */
+static void end_line_of_one(struct program *program)
 {
+    struct line line = {program->bytes, program->kept};
     int breaking_line = 0;
     program->line_number++;
-    enum refusal refusal = run_line(&program->bench, &program->line, &program->out, &breaking_line);
-    if (refusal != ACCEPTED)
-        put_refusal(program, refusal, breaking_line);
-    while (program->bench.state == PRINTING)
-        take_set(&program->bench, &program->out);
-    program->line.length = 0;
-    program->line.over = false;
+    enum refusal refusal = run_line(&program->bench, 0, &line, &program->out, &breaking_line);
+    if (refusal != ACCEPTED) {
+        put_number(&program->refusals, program->line_number, 1);
+        put_text(&program->refusals, " ");
+        put_refusal(&program->refusals, refusal, breaking_line);
+    }
+    struct session *session = &program->bench.sessions[0];
+    while (session->state == PRINTING) {
+        put_set(&program->out, session);
+        end_set(session);
+    }
+}
+
+/* `take`, or `take` and its room. */
+static bool read_take(struct place place, int *room)
+{
+    *room = ROOM_BYTES;
+    if (!pass(&place, 't') || !pass(&place, 'a') || !pass(&place, 'k') || !pass(&place, 'e'))
+        return false;
+    return at_end(&place) || (pass(&place, ' ') && read_number(&place, room) && at_end(&place));
+}
+
+/* A line that is neither a take nor a tablet's names no tablet. */
+static enum refusal run_call(struct program *program, int *tablet, int *breaking_line)
+{
+    struct place place = {program->bytes, program->bytes + program->kept};
+    int room;
+    if (read_take(place, &room))
+        return take(&program->bench, (size_t)room, &program->reply, tablet);
+    if (!read_number(&place, tablet) || !pass(&place, ' '))
+        return NO_TABLET;
+    struct line line = {place.at, (size_t)(place.end - place.at)};
+    return run_line(&program->bench, *tablet, &line, &program->reply, breaking_line);
+}
+
+static void put_reply(struct program *program, int tablet)
+{
+    const struct session *session = &program->bench.sessions[tablet];
+    int left = session->state == PRINTING ? session->sets - session->set : 0;
+    put_text(&program->out, "ok ");
+    put_number(&program->out, (uint64_t)tablet, 1);
+    put_text(&program->out, " ");
+    put_number(&program->out, (uint64_t)left, 1);
+    put_text(&program->out, " ");
+    put_number(&program->out, program->reply.length, 1);
+    put_text(&program->out, "\n");
+    put(&program->out, program->reply.bytes, program->reply.length);
+}
+
+/* The program of a class: one record for each line. */
+static void end_line_of_class(struct program *program)
+{
+    int tablet = 0, breaking_line = 0;
+    program->reply.length = 0;
+    enum refusal refusal = run_call(program, &tablet, &breaking_line);
+    if (refusal == ACCEPTED) {
+        put_reply(program, tablet);
+    } else {
+        put_text(&program->out, "no ");
+        put_refusal(&program->out, refusal, breaking_line);
+    }
+}
+
+static void end_line(struct program *program)
+{
+    if (program->is_class)
+        end_line_of_class(program);
+    else
+        end_line_of_one(program);
+    program->kept = 0;
 }
 
 static void feed(struct program *program, const byte *bytes, size_t length)
@@ -1154,8 +1315,8 @@ static void feed(struct program *program, const byte *bytes, size_t length)
     for (size_t i = 0; i < length; i++) {
         if (bytes[i] == '\n')
             end_line(program);
-        else if (bytes[i] != '\r' && bytes[i] != 0x1A)
-            add_byte(&program->line, bytes[i]);
+        else if (bytes[i] != '\r' && bytes[i] != 0x1A && program->kept < KEPT_BYTES)
+            program->bytes[program->kept++] = bytes[i];
     }
 }
 
@@ -1173,13 +1334,14 @@ static size_t read_input(struct program *program, byte *bytes)
     }
 }
 
-int main(void)
+int main(int count, char **arguments)
 {
     static struct program program;
     static byte input[BUFFER_BYTES];
     size_t length;
     program.out.descriptor = STDOUT_FILENO;
     program.refusals.descriptor = STDERR_FILENO;
+    program.is_class = count > 1 && strcmp(arguments[1], "class") == 0;
     start_bench(&program.bench);
     while ((length = read_input(&program, input)) > 0)
         feed(&program, input, length);

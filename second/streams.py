@@ -1,9 +1,10 @@
 #!/usr/bin/env python3
 """Makes streams of lines for the label bench.
 
-    streams.py SEED [LINES]      one stream of about LINES lines (200)
-    streams.py --load KIND [N]   a load for measuring: reading, answering
-                                 or printing, N rounds of it
+    streams.py SEED [LINES]          one stream of about LINES lines (200)
+    streams.py --class SEED [LINES]  one of a class: many tablets, and takes (400)
+    streams.py --load KIND [N]       a load for measuring: reading, answering
+                                     or printing, N rounds of it
 
 A stream follows a small picture of the bench (its state, the stored forms and
 their sizes), so that most lines suit the state they meet, and leans towards
@@ -23,6 +24,8 @@ STORE_FORMS = 8
 LINE_BYTES = 256
 LAST_X = 811
 LAST_Y = 8728
+TABLETS = 30
+ROOM_BYTES = 10291
 
 DROPPED = '\r\x1a'
 CONTROL = [chr(b) for b in range(0x20) if chr(b) not in '\n\r\x1a']
@@ -51,6 +54,7 @@ class Form:
 
     def __init__(self, name, lines):
         self.name = name
+        self.lines = lines
         self.size = sum(line.size() for line in lines)
         self.defines = [line.define for line in lines if line.define]
         self.set_size = 12 + sum(line.size() + 20 for line in lines if not line.define)
@@ -711,20 +715,23 @@ class Stream:
             options += ['FI', 'FS' + name, 'FR' + name, 'FK' + name, 'FK"*"']
         return self.choice(options)
 
+    def idle_line(self, state):
+        """A line that leaves the state as it is."""
+        how = self.rng.randrange(6)
+        if how == 0:
+            return ''
+        if how < 3:
+            return self.misplaced(state)
+        if state == 'ready':  # a P that happens to read would print
+            return self.choice([self.damage.unknown(), self.damage.long_line(), 'P', 'P0', 'P65536', 'P1,', 'P1,0', '\x01'])
+        if how == 3:
+            return self.damage.any_values()
+        return self.damage.any_line(self.misplaced(state))
+
     def noise(self, state, probability=0.12):
         """A few lines that leave the state as it is."""
         while self.chance(probability):
-            how = self.rng.randrange(6)
-            if how == 0:
-                self.send('')
-            elif how < 3:
-                self.send(self.misplaced(state))
-            elif state == 'ready':  # a P that happens to read would print
-                self.send(self.choice([self.damage.unknown(), self.damage.long_line(), 'P', 'P0', 'P65536', 'P1,', 'P1,0', '\x01']))
-            elif how == 3:
-                self.send(self.damage.any_values())
-            else:
-                self.send(self.damage.any_line(self.misplaced(state)))
+            self.send(self.idle_line(state))
 
     def episode_reading(self):
         """Lines sent to an idle bench, which tell 1 to 6 apart."""
@@ -884,6 +891,327 @@ def stream(seed, lines=200):
     return Stream(seed).run(lines)
 
 
+# ---- Streams of a class ----------------------------------------------------
+
+class Session:
+    """What the picture knows of a tablet. Its script gives the lines that it
+    will send, and changes the picture as it gives them; None is a pause."""
+
+    def __init__(self, tablet):
+        self.tablet = tablet
+        self.script = None
+        self.collecting = False
+        self.free()
+
+    def free(self):
+        self.form = None   # the one held open
+        self.answers = {}  # to its definitions
+        self.set = 0       # sets taken
+        self.left = 0      # and still to be taken
+        self.copies = 1
+
+    def shown(self, definition):
+        """A value as the next set shows it."""
+        kind, number, _, step = definition
+        answer = self.answers[kind, number]
+        return escaped(answer)[1:-1] if kind == 'V' else str(int(answer) + self.set * step).zfill(len(answer))
+
+    def set_size(self):
+        """The bytes of the next set."""
+        values = {definition[:2]: len(self.shown(definition)) for definition in self.form.defines}
+        size = len(f'N\nP1,{self.copies}\n')
+        for line in self.form.lines:
+            if line.define:
+                continue
+            size += line.size()
+            if line.value:
+                named = value_name(line.value)
+                alone = not line.normal.endswith('"' + named)
+                size += values[line.value] - len(named) + (2 if alone else 0)
+        return size
+
+
+class ClassStream(Stream):
+    """Tablets that each follow a script, a line at a time, with takes between."""
+
+    KINDS = {  # how often each script is begun
+        'mixed': {'form': 6, 'print': 10, 'delete': 3, 'full': 0.5, 'read': 2, 'come_right': 1},
+        'printing': {'form': 2, 'print': 20, 'delete': 1, 'come_right': 0.5},
+        'collecting': {'form': 15, 'print': 3, 'delete': 4, 'come_right': 1},
+        'deleting': {'form': 6, 'print': 8, 'delete': 12, 'come_right': 0.5},
+        'full': {'full': 8, 'form': 3, 'print': 4, 'delete': 2, 'come_right': 1},
+    }
+
+    def __init__(self, seed, kind=None):
+        super().__init__(seed)
+        drawn = self.choice(list(self.KINDS))
+        self.kind = kind or drawn
+        self.sessions = {tablet: Session(tablet) for tablet in self.some_tablets()}
+        self.last_served = TABLETS - 1
+        self.current = self.choice(list(self.sessions))
+        self.steady = self.choice([0, 0.5, 0.9])  # the same tablet goes on
+        self.short = self.choice([0, 0.05, 0.3])  # takes that name their room
+        self.strange = self.choice([0, 0.02, 0.1])  # lines of no tablet
+
+    def some_tablets(self):
+        """1 to 30 of them, in many streams next to each other around the end."""
+        count = self.choice([1, 2, 2, 3, 3, 5, 8, 15, 29, 30, 30])
+        if self.chance(0.5):
+            return self.rng.sample(range(TABLETS), count)
+        first = self.rng.randint(TABLETS - count, TABLETS)
+        return [(first + i) % TABLETS for i in range(count)]
+
+    # -- the picture
+
+    def drafting(self):
+        return any(own.collecting for own in self.sessions.values())
+
+    def is_held(self, form):
+        return any(own.form is form for own in self.sessions.values())
+
+    def in_turn(self):
+        for i in range(1, TABLETS + 1):
+            own = self.sessions.get((self.last_served + i) % TABLETS)
+            if own and own.left:
+                return own
+        return None
+
+    # -- scripts: what a tablet sends from Idle to Idle
+
+    def collect(self, own, name, lines, sound=True):
+        """A form from FS to FE; the tablet may stop on the way."""
+        refused = self.find(name) or self.drafting()
+        if not refused:
+            own.collecting, self.draft = True, name
+        yield 'FS' + self.parts.quoted(name)
+        if refused:
+            for line in lines[:self.choice([0, 0, 0, 1, 3])]:
+                yield line.sent
+            return
+        stop = self.rng.randint(0, len(lines)) if self.chance(0.06) else None
+        size = 0
+        for count, line in enumerate(lines, 1):
+            if count == stop:
+                return
+            if self.chance(self.damaged):
+                sound = False
+                yield self.spoiling_line(line.sent)
+            if self.chance(0.02):
+                yield self.choice(['', None])
+            size += line.size()
+            if size > FORM_BYTES or count > FORM_LINES:
+                sound = False
+            yield line.sent
+        own.collecting = False
+        form = Form(name, lines)
+        if sound and len(self.stored) < STORE_FORMS and form.size <= self.bytes_left():
+            self.stored.append(form)
+        yield 'FE'
+
+    def kill(self, name):
+        """The line that deletes, and what comes of it in the picture."""
+        if name != '*':
+            self.stored = [form for form in self.stored if form.name != name or self.is_held(form)]
+        elif not any(own.form for own in self.sessions.values()):
+            self.stored = []
+        return 'FK' + self.parts.quoted(name)
+
+    def script_form(self, own):
+        if len(self.stored) == STORE_FORMS or self.bytes_left() < 600 or self.chance(0.1):
+            free = [form.name for form in self.stored if not self.is_held(form)]
+            yield self.kill(self.choice(free + ['*']))
+        stored_name = self.stored and self.chance(0.15)
+        name = self.choice(self.stored).name if stored_name else self.new_name()
+        kind = self.choice(['ordinary'] * 3 + ['counting'] * 4 + ['small', 'hundred', 'unsound', 'unsound'])
+        if kind == 'unsound':
+            yield from self.collect(own, name, self.forms.unsound(), sound=False)
+        elif kind == 'hundred':
+            total = self.choice([100, 101])
+            yield from self.collect(own, name, self.forms.length_rule(total), sound=total == 100)
+        elif kind == 'ordinary':
+            yield from self.collect(own, name, self.forms.ordinary(self.choice([3, 6, 12])))
+        else:
+            yield from self.collect(own, name, getattr(self.forms, kind)())
+
+    def script_full(self, own):
+        """Forms that are full or one byte or line too much, or that fill the store."""
+        how = self.rng.randrange(3)
+        if how == 0:
+            lines = self.forms.of_bytes(self.choice([1023, 1024, 1025])) if self.chance(0.5) else \
+                self.forms.of_lines(self.choice([39, 40, 41, 42]))
+            yield from self.collect(own, self.new_name(), lines)
+        while how == 1 and self.bytes_left() >= 26 and len(self.stored) < STORE_FORMS:
+            left = self.bytes_left()
+            size = 1000 if left > 1100 else min(FORM_BYTES, left + self.choice([-1, 0, 0, 1]))
+            yield from self.collect(own, self.new_name(), self.forms.of_bytes(max(26, size)))
+            if own.collecting or self.drafting() or self.chance(0.2):
+                return
+        while how == 2 and len(self.stored) <= STORE_FORMS:
+            lines = self.forms.small() if len(self.stored) < STORE_FORMS else self.forms.ordinary()
+            yield from self.collect(own, self.new_name(), lines)
+            if own.collecting or self.drafting() or self.chance(0.15):
+                return
+        yield 'FI'
+
+    def script_delete(self, own):
+        """A form that is held, one that is not, one that is not there or is being collected, or all."""
+        held = [form.name for form in self.stored if self.is_held(form)]
+        free = [form.name for form in self.stored if not self.is_held(form)]
+        names = [self.choice(held)] * 3 if held else []
+        names += [self.choice(free)] * 2 if free else []
+        names += [self.new_name(), '*']
+        names += [self.draft] * 2 if self.drafting() else []
+        name = self.choice(names)
+        yield self.kill(name)
+        if self.chance(0.5):
+            yield 'FI'
+        elif name != '*' and not self.find(name) and self.chance(0.3):
+            yield 'FR' + self.parts.quoted(name)
+
+    def disturbed(self, state):
+        while self.chance(0.08):
+            yield self.choice([None, self.idle_line(state)])
+
+    def script_print(self, own):
+        if not self.stored and self.drafting() and self.chance(0.95):
+            return
+        if not self.stored and self.chance(0.9):
+            yield from self.script_form(own)
+            return
+        if not self.stored or self.chance(0.04):
+            yield 'FR' + self.parts.quoted(self.new_name())
+            return
+        own.form = form = self.choice(self.stored)
+        sets = self.choice([1, 1, 2, 2, 3, 5, 10, 30])
+        yield 'FR' + self.parts.quoted(form.name)
+        if form.defines:
+            yield from self.disturbed('open')
+            if self.chance(0.04):
+                own.free()
+                yield 'N'
+                return
+            yield '?'
+            for definition in form.defines:
+                if self.chance(0.04):
+                    own.free()
+                    yield self.unfit_answer(definition)
+                    return
+                answer = self.fitting_answer(definition, sets)
+                own.answers[definition[:2]] = answer
+                yield answer
+        yield from self.disturbed('ready')
+        yield from self.print_all(own, sets)
+
+    def print_all(self, own, sets):
+        """P until one should be accepted, and then a wait for the printer."""
+        counters = [(int(own.answers['C', number]), length, step) for kind, number, length, step in own.form.defines if kind == 'C']
+        for _ in range(4):
+            count = max(1, self.choice([sets, sets, sets, sets + 1, sets - 1, 1, 65535]))
+            copies = self.choice([None, None, 1, 2, 65535])
+            accepted = not self.leaves(counters, count)
+            if accepted:
+                own.left, own.copies = count, copies or 1
+            yield 'P' + self.parts.digits(count) + ('' if copies is None else ',' + self.parts.digits(copies))
+            if accepted:
+                break
+        while own.left:
+            if self.chance(0.005 if own.left < 50 else 0.1):
+                break
+            yield self.idle_line('printing') if self.chance(0.05) else None
+        if own.form:
+            own.free()
+            yield 'N'
+
+    def script_read(self, own):
+        for _ in range(self.rng.randint(1, 6)):
+            yield self.damage.any_values() if self.chance(0.6) else self.idle_line('idle')
+
+    def script_come_right(self, own):
+        """Leads to Idle from any state, also where a script has stopped."""
+        while own.collecting and self.chance(0.8):
+            yield None if self.chance(0.9) else self.parts.L().sent
+        yield '\x01'
+        own.collecting = False
+        yield 'FE'
+        own.free()
+        yield 'N'
+
+    # -- lines of no tablet, and takes
+
+    def no_tablet(self):
+        """A tablet over 29 with a line that would do something, or no call at all."""
+        line = self.choice(['N', 'FE', 'FI', 'FK"*"', '?', 'P1', 'FS"A"', 'FR"A"', '', '\x01', self.damage.long_line(), self.damage.any_values()])
+        if self.chance(0.5):
+            return self.choice(['30', '30', '31', '00030', '39', '60', '99', '100', '256', '65535', '65536', '99999']) + ' ' + line
+        tablet = str(self.current)
+        return self.choice([line, ' ' + line, tablet, tablet + line, tablet + '\t' + line, tablet + ',' + line, ' ' + tablet + ' ' + line,
+                            '-1 ' + line, '+' + tablet + ' ' + line, tablet.zfill(6) + ' ' + line, '100000 ' + line, '0x1 ' + line,
+                            tablet + '. ' + line, tablet + '\xa0' + line, '', ' ', 'take ', 'take  1', 'take 1 ', 'take -1', 'take 010291',
+                            'take 100000', 'take A', 'take,1', 'take\t1', 'taken', 'Take', 'TAKE', ' take', 'tak', 'take take', '0take', 'take1',
+                            'take ' + '0' * 300, '0' * 300])
+
+    def take(self):
+        own = self.in_turn()
+        size = own.set_size() if own else self.rng.randint(0, 300)
+        room = None
+        if self.chance(self.short):
+            room = self.choice([size, size, size - 1, size - 1, size + 1, 0, 1, 255, 256, ROOM_BYTES - 1, ROOM_BYTES, 65535, 99999])
+            room = max(0, room)
+        if own and (room is None or room >= size):
+            self.last_served = own.tablet
+            own.set, own.left = own.set + 1, own.left - 1
+            if own.left == 0:
+                own.free()
+        self.send('take' if room is None else 'take ' + self.parts.digits(room))
+
+    # -- all together
+
+    def next_line(self, own):
+        """The next line of a tablet's script; None is a pause."""
+        if own.script is None:
+            shares = self.KINDS[self.kind]
+            name = 'come_right' if own.collecting or own.form else self.rng.choices(list(shares), list(shares.values()))[0]
+            if name in ('form', 'full') and self.drafting() and self.chance(0.8):
+                if len(self.stored) < STORE_FORMS or self.chance(0.8):
+                    return None  # mostly a tablet waits until it may collect
+                name = 'delete'  # and now and then makes room for the one who does
+            own.script = getattr(self, 'script_' + name)(own)
+        for line in own.script:
+            return line
+        own.script = None
+        return None
+
+    def step(self, takes):
+        if not self.in_turn():
+            takes *= 0.05
+        if self.chance(takes):
+            self.take()
+        elif self.chance(self.strange):
+            self.send(self.no_tablet())
+        else:
+            if not self.chance(self.steady):
+                self.current = self.choice(list(self.sessions))
+            own = self.sessions[self.current]
+            line = self.next_line(own)
+            if line is not None:
+                self.send(self.parts.digits(own.tablet) + ' ' + line)
+            elif self.chance(takes):
+                self.take()
+
+    def run(self, lines):
+        while len(self.sent) < lines:
+            takes = self.choice([0, 0.02, 0.02, 0.1, 0.3, 0.9])
+            for _ in range(self.rng.randint(10, 60 + 6 * len(self.sessions))):
+                self.step(takes)
+        text = '\n'.join(self.sent) + self.choice(['\n', '\n', '\n', '\n0 FI', '\ntake', '\n\r'])
+        return text.encode('latin-1')
+
+
+def class_stream(seed, lines=400, kind=None):
+    """The stream of a class that a seed gives; its kind may be set."""
+    return ClassStream(seed, kind).run(lines)
+
+
 # ---- Loads -----------------------------------------------------------------
 
 def load_form(name, lines):
@@ -924,6 +1252,8 @@ def main(arguments):
     if len(arguments) >= 2 and arguments[0] == '--load' and arguments[1] in LOADS:
         make, rounds = LOADS[arguments[1]]
         text = make(int(arguments[2]) if len(arguments) > 2 else rounds).encode('latin-1')
+    elif len(arguments) >= 2 and arguments[0] == '--class' and arguments[1].isdigit():
+        text = class_stream(*[int(number) for number in arguments[1:3]])
     elif arguments and arguments[0].isdigit():
         text = stream(int(arguments[0]), *[int(lines) for lines in arguments[1:2]])
     else:

@@ -11,8 +11,6 @@ use Rattle.paper.specs.Line.{kept, control}
 use Rattle.paper.specs.Form.{Form}
 use Rattle.paper.specs.Bench as P
 use Rattle.paper.specs.State.{Sane}
-use Rattle.paper.specs.Program.{toTake}
-use Rattle.paper.proofs.Invariant.{led-sane}
 use Rattle.command.specs.View.{width}
 use Rattle.command.specs.declared.Answer.{Answer}
 use Rattle.command.specs.declared.Refusal.{Refusal}
@@ -20,7 +18,8 @@ use Rattle.store.specs.Packed.{Store}
 use Rattle.store.specs.declared.Filed.{Filed}
 use Rattle.session.specs.Memory.{Session, Shelf, sessionOf, shelfOf, drafts, drafting, holds, holding, packedSession, packedShelf}
 use Rattle.session.specs.Outcome.{At, Does, Hears, Answers, Refuses, Takes, Showing, Planned, Kept, NotAnswering, afterLine}
-use Rattle.call.specs.Call.{Memory, memoryOf, laid, codeOf, heldIn, filedIn, packedBench, Reached, HearsLine, TakesSet, SetsLeft}
+use Rattle.call.specs.Call.{Memory, memoryOf, laid, packedBench, Reached, HearsLine, TakesSet}
+use Rattle.seats.specs.Numbers.{codeOf, heldIn, filedIn}
 use Rattle.session.specs.declared.change.Change.{Change}
 use Rattle.session.specs.declared.state.Held.{Held}
 use Rattle.session.specs.declared.state.Turn.{Turn}
@@ -83,7 +82,7 @@ module _ (m : Memory) (h : Held) (rh : ReadsHeld (m .held) h) (k : Reached m) wh
         forms = k .paper .forms;
         state = k .paper .session;
         number = k .number;
-        sane = led-sane width (k .led);
+        sane = k .sane;
         opens = k .opens;
         here = reached-here;
         there = reached-there f rf;
@@ -165,34 +164,6 @@ module _ (m : Memory) (h : Held) (rh : ReadsHeld (m .held) h) (f : Filed) (rf : 
         meets = λ k. heard-does k .meets;
         leaves = heard-is;
       }
-
--- the sets that are out are no more than those asked for
-pub left-within : (m : Memory) (h : Held) → ReadsHeld (m .held) h → Reached m → (sets copies out : ℕ) → h .mode ≡ M.Printing sets copies out → out ≤ sets
-left-within m h rh k sets copies out e =
-    let p = prints (sessionIn m h) _ _ (k .paper .session) sets copies out (reached-here m h rh k) e in
-    let s : Sane width (record { forms = k .paper .forms; session = P.printing (p .lines) (p .given) sets copies out }) =
-    subst (λ x. Sane width (record { forms = k .paper .forms; session = x })) (p .is) (led-sane width (k .led)) in
-    omega (arith, s .session .2 .left)
-
--- those that are left
-pub left-printing : (m : Memory) (h : Held) → ReadsHeld (m .held) h → (sets copies out : ℕ) → h .mode ≡ M.Printing sets copies out → SetsLeft m (sets - out)
-unfolding toTake
-left-printing m h rh sets copies out e =
-    record { is = λ k. let p = prints (sessionIn m h) _ _ (k .paper .session) sets copies out (reached-here m h rh k) e in sym (ap toTake (p .is)) }
-
--- none is left where none is printed
-pub left-none : (m : Memory) (h : Held) → ReadsHeld (m .held) h → Tagged (0 ∷ 1 ∷ 2 ∷ 3 ∷ 4 ∷ 5 ∷ []) (sessionIn m h) → SetsLeft m 0
-unfolding packedSession drafting drafts holding holds toTake
-left-none m h rh t = record { is = λ k. by (k .paper .forms) (k .number) (k .paper .session) (reached-here m h rh k) }
-  where
-    by : (fs : List Form) (n : ℕ) (st : P.Session) → sessionIn m h ≡ packedSession fs n st → 0 ≡ toTake st
-    by fs n P.idle e = refl
-    by fs n (P.collecting name ls) e = refl
-    by fs n P.spoiled e = refl
-    by fs n (P.opened ls) e = refl
-    by fs n (P.answering ls given) e = refl
-    by fs n (P.ready ls given) e = refl
-    by fs n (P.printing ls given k c i) e = absurd (wrong (0 ∷ 1 ∷ 2 ∷ 3 ∷ 4 ∷ 5 ∷ []) (sessionIn m h) fs n (P.printing ls given k c i) e t tt)
 
 -- the numbers of a session in Answering
 answering-tag : (h : Held) → getD (heldIn h) 0 0 ≡ 4 → h .mode ≡ M.Answering (getD (heldIn h) 1 0)

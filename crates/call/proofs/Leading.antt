@@ -15,7 +15,7 @@ use Rattle.paper.specs.Read.{Reading, command, unread, read}
 use Rattle.paper.specs.Form.{Form, withinLimits, asked, isSome, unsoundAt, find, hasRoom, listing}
 use Rattle.paper.specs.Set.{fits, allHold, setOf}
 use Rattle.paper.specs.Bench as P
-use Rattle.paper.specs.State.{begun, hearing, taking}
+use Rattle.paper.proofs.Invariant.{begin-sane, hear-sane, take-sane}
 use Rattle.paper.proofs.Test.{either}
 use Rattle.command.specs.View.{width}
 use Rattle.session.specs.Memory.{Session, Shelf, drafting, packedSession, packedShelf, Lies, Opens, numberOf, ifIdle, afterFiling, afterCommand}
@@ -45,7 +45,7 @@ opens-refused fs n (P.ready ls given) h = h
 opens-refused fs n (P.printing ls given k c i) h = h
 
 -- the form of a name stands at its number
-found-lies : (name : List ℕ) (fs : List Form) (ls : List FormLine) → find name fs ≡ some ls → Lies fs (numberOf name fs) ls
+pub found-lies : (name : List ℕ) (fs : List Form) (ls : List FormLine) → find name fs ≡ some ls → Lies fs (numberOf name fs) ls
 unfolding find numberOf if_then_else_
 found-lies name [] ls e = absurd (Option·some-ne-none _ (sym e))
 found-lies name (f ∷ fs) ls e =
@@ -228,7 +228,7 @@ module _ (self : Memory) (k : Reached self) (next : Memory) where
       record {
         paper = P.hear width room (k .paper) s .next;
         number = afterLine (k .number) (k .paper .forms) (k .paper .session) (kept s);
-        led = hearing (k .led) room s;
+        sane = hear-sane width room (k .paper) s (k .sane);
         opens = opens-heard room (k .number) (k .paper .forms) (k .paper .session) (kept s) (k .opens);
         is = e;
       }
@@ -240,7 +240,7 @@ module _ (self : Memory) (k : Reached self) (next : Memory) where
       record {
         paper = P.takeSet room (k .paper) .next;
         number = k .number;
-        led = taking (k .led) room;
+        sane = take-sane width room (k .paper) (k .sane);
         opens = opens-take room (k .number) (k .paper .forms) (k .paper .session) (k .opens);
         is = e;
       }
@@ -255,4 +255,4 @@ pub begins-promised : (shelf : Shelf) (session : Session) → shelf ≡ packedSh
 unfolding packedBench P.begin packedSession
 begins-promised shelf session e f =
     let is : (n : ℕ) → laid shelf session ≡ packedBench P.begin n = λ n. ap (λ x. laid x session) e ∙ ap (laid (packedShelf [])) f in
-    record { reached = record { paper = P.begin; number = 0; led = begun; opens = tt; is = is 0 }; is = is }
+    record { reached = record { paper = P.begin; number = 0; sane = begin-sane width; opens = tt; is = is 0 }; is = is }

@@ -1,4 +1,2 @@
-pub mod Laid
 pub mod Calling
 pub mod Leading
-pub mod Demand

@@ -7,8 +7,7 @@ use lib.Dec.{eqb}
 use Rattle.paper.specs.Byte.{if_then_else_}
 use Rattle.paper.specs.Bench as P
 use Rattle.paper.specs.Line.{kept}
-use Rattle.paper.specs.State.{Led}
-use Rattle.paper.specs.Program.{toTake}
+use Rattle.paper.specs.State.{Sane}
 use Rattle.command.specs.View.{width}
 use Rattle.command.specs.Answer.{Meets}
 use Rattle.command.specs.declared.Answer.{Answer}
@@ -18,38 +17,7 @@ use Rattle.session.specs.Outcome.{afterLine}
 use Rattle.session.specs.declared.state.Mode.{Mode}
 use Rattle.session.specs.declared.state.Mode.the-variants as M
 use Rattle.session.specs.declared.state.Held.{Held}
-use Rattle.call.specs.declared.numbers.Code.{Code}
-
--- a state in four numbers
-unfoldable pub codeOf : Mode → Code
-codeOf M.Idle = record { tag = 0; a = 0; b = 0; c = 0 }
-codeOf (M.Collecting lines) = record { tag = 1; a = lines; b = 0; c = 0 }
-codeOf M.Spoiled = record { tag = 2; a = 0; b = 0; c = 0 }
-codeOf M.Opened = record { tag = 3; a = 0; b = 0; c = 0 }
-codeOf (M.Answering k) = record { tag = 4; a = k; b = 0; c = 0 }
-codeOf M.Ready = record { tag = 5; a = 0; b = 0; c = 0 }
-codeOf (M.Printing sets copies out) = record { tag = 6; a = sets; b = copies; c = out }
-
--- and the state of four numbers
-unfoldable pub modeOf : (tag a b c : ℕ) → Mode
-modeOf tag a b c =
-    if eqb tag 1 then M.Collecting a
-    else if eqb tag 2 then M.Spoiled
-    else if eqb tag 3 then M.Opened
-    else if eqb tag 4 then M.Answering a
-    else if eqb tag 5 then M.Ready
-    else if eqb tag 6 then M.Printing a b c
-    else M.Idle
-
--- the numbers of a session
-unfoldable pub heldIn : Held → List ℕ
-heldIn h =
-    let code = codeOf (h .mode) in
-    code .tag ∷ code .a ∷ code .b ∷ code .c ∷ h .form ∷ h .start ∷ h .size ∷ h .len ∷ h .drafted ∷ h .given ∷ []
-
--- and those of the store
-unfoldable pub filedIn : Store → List ℕ
-filedIn s = s .used ∷ s .count ∷ []
+use Rattle.seats.specs.Numbers.{heldIn, filedIn}
 
 -- the memory of a bench: the forms' texts and names, the lengths of both, their plans and the store's numbers; the draft's name and text,
 -- the answers, what they are worth, and the session's numbers
@@ -92,11 +60,11 @@ laid t s =
 unfoldable pub packedBench : P.Bench → ℕ → Memory
 packedBench b n = laid (packedShelf (b .forms)) (packedSession (b .forms) n (b .session))
 
--- memory that calls lead to
+-- memory of a bench of which all holds that holds of those that calls lead to; a session among others is led to by their calls too
 pub record Reached (self : Memory) : Type 0 where
   pub paper : P.Bench
   pub number : ℕ
-  pub led : Led width paper
+  pub sane : Sane width paper
   pub opens : Opens (paper .forms) number (paper .session)
   pub is : self ≡ packedBench paper number
 
@@ -116,7 +84,3 @@ pub record TakesSet (self : Memory) (old : List ℕ) (next : Memory) (new : List
   pub reached : Reached next
   pub meets : (k : Reached self) → Meets (P.takeSet (length old) (k .paper) .answer) old new r
   pub leaves : (k : Reached self) → next ≡ packedBench (P.takeSet (length old) (k .paper) .next) (k .number)
-
--- `sets_left`: the sets that are left to be taken
-pub record SetsLeft (self : Memory) (r : ℕ) : Type 0 where
-  pub is : (k : Reached self) → r ≡ toTake (k .paper .session)

@@ -22,12 +22,12 @@ Differs a [] = Unit
 Differs a (k ∷ ks) = Differs a ks × (a ≡ k → ⊥)
 
 -- a property of each of some letters
-abbrev Each : (ℕ → Type 0) → List ℕ → Type 0
+abbrev pub Each : (ℕ → Type 0) → List ℕ → Type 0
 Each K [] = Unit
 Each K (k ∷ ks) = K k × Each K ks
 
 -- a property of a byte, from that of each letter and from its being none of them
-by-letter : (K : ℕ → Type 0) (ks : List ℕ) (a : ℕ) → Each K ks → (Differs a ks → K a) → K a
+pub by-letter : (K : ℕ → Type 0) (ks : List ℕ) (a : ℕ) → Each K ks → (Differs a ks → K a) → K a
 by-letter K [] a each none = none tt
 by-letter K (k ∷ ks) a each none =
     elim (ℕ-discrete a k) [ yes e ↦ rw e (each .0) | no h ↦ by-letter K ks a (each .1) λ d. none (d, h) ]
@@ -80,17 +80,17 @@ unfolding byRow
 runs-out s = refl
 
 -- no row has another byte behind `L`
-bar-strange : (b : ℕ) (t : List ℕ) → Differs b pens → byRow table (76 ∷ b ∷ t) ≡ strange
+pub bar-strange : (b : ℕ) (t : List ℕ) → Differs b pens → byRow table (76 ∷ b ∷ t) ≡ strange
 unfolding table row these byte one followed give bytes if_then_else_ among any
 bar-strange b t d = simp (skips, runs-out, misses b pens d)
 
 -- nor behind `F`
-filing-strange : (b : ℕ) (t : List ℕ) → Differs b filings → byRow table (70 ∷ b ∷ t) ≡ strange
+pub filing-strange : (b : ℕ) (t : List ℕ) → Differs b filings → byRow table (70 ∷ b ∷ t) ≡ strange
 unfolding table row these byte one followed give bytes if_then_else_ among any
 filing-strange b t d = simp (skips, runs-out, misses b filings d)
 
 -- nor first
-letter-strange : (a : ℕ) (t : List ℕ) → Differs a letters → byRow table (a ∷ t) ≡ strange
+pub letter-strange : (a : ℕ) (t : List ℕ) → Differs a letters → byRow table (a ∷ t) ≡ strange
 unfolding table row these byte one followed give bytes if_then_else_ among any
 letter-strange a t d = simp (skips, runs-out, misses a letters d)
 

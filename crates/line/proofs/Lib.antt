@@ -5,4 +5,5 @@ pub mod Item
 pub mod Given
 pub mod Family
 pub mod Whole
+pub mod Filing
 pub mod Unique

@@ -332,14 +332,14 @@ fn variable_line(s: &[u8]) -> Command
 }
 
 // What a line does with its name.
-enum Errand {
+pub enum Errand {
     Start,
     Recall,
     Delete,
 }
 
 // A name that ends the line, or the star.
-fn name_line(s: &[u8], errand: Errand) -> Command
+pub fn name_line(s: &[u8], errand: Errand) -> Command
     ensures { λ r. ⌜ Gives (now (s .entry)) (nameLine (filing errand) (from (now (s .entry)) 2)) r ⌝ }
 {
     let Quoted::Held { span: name } = last_string(s, 2) else {

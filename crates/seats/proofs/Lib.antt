@@ -1,0 +1,10 @@
+pub mod Laid
+pub mod Flat
+pub mod Parted
+pub mod States
+pub mod Gone
+pub mod Neighbours
+pub mod Lowering
+pub mod Turning
+pub mod Others
+pub mod Joining

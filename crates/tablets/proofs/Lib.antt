@@ -1,0 +1,17 @@
+pub mod Leading
+pub mod Naming
+pub mod Packed
+pub mod Staying
+pub mod Counting
+pub mod Hearing
+pub mod Leaving
+pub mod Forbidding
+pub mod Following
+pub mod Left
+pub mod Taking
+pub mod Beginning
+pub mod Chain
+pub mod Lone
+pub mod Turns
+pub mod Orders
+pub mod Outcomes

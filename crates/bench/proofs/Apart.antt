@@ -27,14 +27,14 @@ use Rattle.bench.proofs.Bench as T
 use Rattle.bench.proofs.Bench.Laws as T′
 
 abbrev laid : List Member
-laid = (record { row = Array u8 4096; ty = tyArray (tyInt w8) 4096 } ∷ record { row = Array u8 128; ty = tyArray (tyInt w8) 128 } ∷ record { row = Array usize 8; ty = tyArray (tyInt w64) 8 } ∷ record { row = Array usize 8; ty = tyArray (tyInt w64) 8 } ∷ record { row = Array usize 1856; ty = tyArray (tyInt w64) 1856 } ∷ record { row = Array usize 2; ty = tyArray (tyInt w64) 2 } ∷ record { row = Array u8 16; ty = tyArray (tyInt w8) 16 } ∷ record { row = Array u8 1024; ty = tyArray (tyInt w8) 1024 } ∷ record { row = Array u8 1700; ty = tyArray (tyInt w8) 1700 } ∷ record { row = Array usize 104; ty = tyArray (tyInt w64) 104 } ∷ record { row = Array usize 10; ty = tyArray (tyInt w64) 10 } ∷ [])
+laid = (record { row = Array u8 4096; ty = tyArray (tyInt w8) 4096 } ∷ record { row = Array u8 128; ty = tyArray (tyInt w8) 128 } ∷ record { row = Array usize 8; ty = tyArray (tyInt w64) 8 } ∷ record { row = Array usize 8; ty = tyArray (tyInt w64) 8 } ∷ record { row = Array usize 1856; ty = tyArray (tyInt w64) 1856 } ∷ record { row = Array usize 2; ty = tyArray (tyInt w64) 2 } ∷ record { row = Array u8 480; ty = tyArray (tyInt w8) 480 } ∷ record { row = Array u8 30720; ty = tyArray (tyInt w8) 30720 } ∷ record { row = Array u8 51000; ty = tyArray (tyInt w8) 51000 } ∷ record { row = Array usize 3120; ty = tyArray (tyInt w64) 3120 } ∷ record { row = Array usize 302; ty = tyArray (tyInt w64) 302 } ∷ [])
 
 laid-as-declared : rowsOf laid ≡ rows (T.the-type .parts)
 laid-as-declared = refl
 
 module _ (q : Share) (b o : ℕ) where
   abbrev pub Fields : Record → Fml
-  Fields k = fsep (partAt (Array u8 4096) q (k .forms) b (o + 0)) (fsep (partAt (Array u8 128) q (k .names) b (o + 4096)) (fsep (partAt (Array usize 8) q (k .texts) b (o + 4224)) (fsep (partAt (Array usize 8) q (k .lens) b (o + 4288)) (fsep (partAt (Array usize 1856) q (k .plans) b (o + 4352)) (fsep (partAt (Array usize 2) q (k .filed) b (o + 19200)) (fsep (partAt (Array u8 16) q (k .name) b (o + 19216)) (fsep (partAt (Array u8 1024) q (k .text) b (o + 19232)) (fsep (partAt (Array u8 1700) q (k .answers) b (o + 20256)) (fsep (partAt (Array usize 104) q (k .values) b (o + 21960)) (fsep (partAt (Array usize 10) q (k .held) b (o + 22792)) (ftrue)))))))))))
+  Fields k = fsep (partAt (Array u8 4096) q (k .forms) b (o + 0)) (fsep (partAt (Array u8 128) q (k .names) b (o + 4096)) (fsep (partAt (Array usize 8) q (k .texts) b (o + 4224)) (fsep (partAt (Array usize 8) q (k .lens) b (o + 4288)) (fsep (partAt (Array usize 1856) q (k .plans) b (o + 4352)) (fsep (partAt (Array usize 2) q (k .filed) b (o + 19200)) (fsep (partAt (Array u8 480) q (k .name) b (o + 19216)) (fsep (partAt (Array u8 30720) q (k .text) b (o + 19696)) (fsep (partAt (Array u8 51000) q (k .answers) b (o + 50416)) (fsep (partAt (Array usize 3120) q (k .values) b (o + 101416)) (fsep (partAt (Array usize 302) q (k .held) b (o + 126376)) (ftrue)))))))))))
 
   abbrev Tupled : Denots (rowsOf laid) → Fml
   Tupled t = partsAt q laid 0 t b o

@@ -1,3 +1,3 @@
 pub mod Lending
 pub mod Apart
-pub mod Beginning
+pub mod Counting

@@ -1,17 +1,21 @@
-// The bench: it hears lines and gives sets. Its arrays are its own and never move; each call lends them.
-ghost use Prim.Native.Nat.{_≤_};
-ghost use lib.ListN.{length};
-ghost use Rattle.call.specs.Call.{Reached, Begins, HearsLine, TakesSet, SetsLeft};
+// The bench: it hears the lines of thirty tablets and gives sets. Its arrays are its own and never move; each call lends them.
+ghost use Rattle.tablets.specs.Calls.{Reached, Begins, HearsLine, TakesSet, SetsLeft, AllLeft};
 ghost use Rattle.program.specs.Pass.{Starting};
 ghost use Rattle.bench.specs.Whole.{memory};
-use call::hear;
-use call::sets_left;
-use call::take;
 use command::Answer;
 use program::run;
+use tablets::counts::LAST;
+use tablets::counts::all_left;
+use tablets::counts::sets_left;
+use tablets::lines::hear;
+use tablets::sets::Served;
+use tablets::sets::take;
 
-// The forms' texts and names, the lengths of both, the forms' plans and the store's numbers; then the session: the draft's name and text,
-// the answers, what they are worth, and the session's numbers.
+// A class begins as if the last tablet had been served, so that the turn goes on to the first.
+pub const LAST_TABLET: usize = 29;
+
+// The forms' texts and names, the lengths of both, the forms' plans and the store's numbers; then of each of thirty sessions the draft's
+// name and text, the answers, what they are worth, and the session's numbers, behind which stand the tablet last served and how many print.
 pub struct Bench {
     forms: [u8; 4096],
     names: [u8; 128],
@@ -19,18 +23,20 @@ pub struct Bench {
     lens: [usize; 8],
     plans: [usize; 1856],
     filed: [usize; 2],
-    name: [u8; 16],
-    text: [u8; 1024],
-    answers: [u8; 1700],
-    values: [usize; 104],
-    held: [usize; 10],
+    name: [u8; 480],
+    text: [u8; 30720],
+    answers: [u8; 51000],
+    values: [usize; 3120],
+    held: [usize; 302],
 }
 
 impl Bench {
-    // Idle, with an empty store.
+    // Every tablet Idle, with an empty store.
     pub fn new() -> Self
         ensures { λ r. ⌜ Begins (memory r) ⌝ }
     {
+        let mut held = [0usize; 302];
+        held[LAST] = LAST_TABLET;
         Bench {
             forms: [0u8; 4096],
             names: [0u8; 128],
@@ -38,18 +44,18 @@ impl Bench {
             lens: [0usize; 8],
             plans: [0usize; 1856],
             filed: [0usize; 2],
-            name: [0u8; 16],
-            text: [0u8; 1024],
-            answers: [0u8; 1700],
-            values: [0usize; 104],
-            held: [0usize; 10],
+            name: [0u8; 480],
+            text: [0u8; 30720],
+            answers: [0u8; 51000],
+            values: [0usize; 3120],
+            held,
         }
     }
 
-    // A line, without its LF, with a buffer for the reply.
-    pub fn hear(&mut self, s: &[u8], reply: &mut [u8]) -> Answer
+    // A line that a tablet sends, without its LF, with a buffer for the reply.
+    pub fn hear(&mut self, t: usize, s: &[u8], reply: &mut [u8]) -> Answer
         requires { ⌜ Reached (memory (now self)) ⌝ }
-        ensures { λ r. ⌜ HearsLine (memory (now (self .entry))) (now (s .entry)) (now (reply .entry)) (memory (now (self .exit))) (now (reply .exit)) r ⌝ }
+        ensures { λ r. ⌜ HearsLine (memory (now (self .entry))) t (now (s .entry)) (now (reply .entry)) (memory (now (self .exit))) (now (reply .exit)) r ⌝ }
     {
         hear(
             &mut self.forms,
@@ -63,15 +69,16 @@ impl Bench {
             &mut self.answers,
             &mut self.values,
             &mut self.held,
+            t,
             s,
             reply,
         )
     }
 
-    // One set, with a buffer for it.
-    pub fn take(&mut self, set: &mut [u8]) -> Answer
+    // A set of the tablet whose turn it is, with a buffer for it.
+    pub fn take(&mut self, set: &mut [u8]) -> Served
         requires { ⌜ Reached (memory (now self)) ⌝ }
-        ensures { λ r. ⌜ TakesSet (memory (now (self .entry))) (now (set .entry)) (memory (now (self .exit))) (now (set .exit)) r ⌝ }
+        ensures { λ r. ⌜ TakesSet (memory (now (self .entry))) (now (set .entry)) (memory (now (self .exit))) (now (set .exit)) (r .tablet) (r .answer) ⌝ }
     {
         take(
             &self.forms,
@@ -89,27 +96,23 @@ impl Bench {
         )
     }
 
-    // The sets that are left to be taken.
-    pub fn sets_left(&self) -> usize
+    // The sets that tablet t has left to be taken.
+    pub fn sets_left(&self, t: usize) -> usize
         requires { ⌜ Reached (memory (now self)) ⌝ }
-        ensures { λ r. ⌜ SetsLeft (memory (now (self .entry))) r ⌝ }
+        ensures { λ r. ⌜ SetsLeft (memory (now (self .entry)) .held) t r ⌝ }
     {
-        sets_left(
-            &self.forms,
-            &self.names,
-            &self.texts,
-            &self.lens,
-            &self.plans,
-            &self.filed,
-            &self.name,
-            &self.text,
-            &self.answers,
-            &self.values,
-            &self.held,
-        )
+        sets_left(&self.held, t)
     }
 
-    // Standard input to standard output and standard error, with a buffer for each.
+    // Those that all tablets have.
+    pub fn all_left(&self) -> usize
+        requires { ⌜ Reached (memory (now self)) ⌝ }
+        ensures { λ r. ⌜ AllLeft (memory (now (self .entry)) .held) r ⌝ }
+    {
+        all_left(&self.held)
+    }
+
+    // Standard input to standard output and standard error, with a buffer for each, as tablet 0.
     pub fn run(&mut self, input: &mut [u8], out: &mut [u8], err: &mut [u8])
         requires { ⌜ Starting (memory (now self)) (now input) (now out) (now err) ⌝ }
         ensures { λ _. ⌜ Reached (memory (now (self .exit))) ⌝ }

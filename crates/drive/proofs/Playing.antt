@@ -1,5 +1,5 @@
 -- What holds from line to line of the script: a bench that is reached, in memory of the sizes that it had.
-use mathlib.Core.Path.{_≡_, refl, _∙_}
+use mathlib.Core.Path.{_≡_}
 use mathlib.Core.List.{List}
 use Prim.Native.Nat.{ℕ, _+_, _*_, _^_, _≤_, _<_}
 use native.Mathlib.Omega.{arith}
@@ -11,7 +11,8 @@ use borrow.Author.Tests.{ltb-true, ltb-false}
 use Rattle.paper.proofs.Test.{either}
 use Rattle.text.specs.Place.{from}
 use Rattle.form.specs.Walk.{firstLine}
-use Rattle.call.specs.Call.{Memory, Reached}
+use Rattle.call.specs.Call.{Memory}
+use Rattle.tablets.specs.Calls.{Reached}
 use Rattle.flow.proofs.Cutting.{ends-before}
 use Rattle.program.proofs.Passing.{Sized, sized-same, sized-then}
 

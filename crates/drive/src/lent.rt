@@ -1,16 +1,20 @@
 // Calls with a buffer lent: the buffer before, the answer, and the buffer after.
 ghost use Prim.Native.Nat.{_≤_};
-ghost use Rattle.call.specs.Call.{memoryOf, Reached};
+ghost use Rattle.call.specs.Call.{memoryOf};
+ghost use Rattle.tablets.specs.Calls.{Reached, Counts};
 use crate::show::say;
 use crate::show::say_number;
 use crate::show::show;
 use crate::show::show_answer;
-use call::hear;
-use call::sets_left;
-use call::take;
 use command::Answer;
 use line::read::read_line;
 use normal::write::write_line;
+use tablets::counts::sets_left;
+use tablets::lines::hear;
+use tablets::sets::take;
+
+// The tablet that plays the script, with the bench to itself.
+const PLAYER: usize = 0;
 
 // What a line of the script asks for.
 pub enum Call {
@@ -60,6 +64,7 @@ fn called(
             answers,
             values,
             held,
+            PLAYER,
             line,
             buf,
         ),
@@ -75,61 +80,40 @@ fn called(
             answers,
             values,
             held,
+            PLAYER,
             b"FI",
             buf,
         ),
-        Call::Take => take(
-            all,
-            names,
-            texts,
-            lens,
-            plans,
-            filed,
-            name,
-            text,
-            answers,
-            values,
-            held,
-            buf,
-        ),
+        Call::Take => {
+            let served = take(
+                all,
+                names,
+                texts,
+                lens,
+                plans,
+                filed,
+                name,
+                text,
+                answers,
+                values,
+                held,
+                buf,
+            );
+            served.answer
+        }
         _ => written(buf),
     }
 }
 
 // The sets that a take leaves.
-fn show_left(
-    all: &[u8],
-    names: &[u8],
-    texts: &[usize],
-    lens: &[usize],
-    plans: &[usize],
-    filed: &[usize],
-    name: &[u8],
-    text: &[u8],
-    answers: &[u8],
-    values: &[usize],
-    held: &[usize],
-    call: Call,
-)
-    requires { ⌜ Reached (memoryOf (now all) (now names) (now texts) (now lens) (now plans) (now filed) (now name) (now text) (now answers) (now values) (now held)) ⌝ }
+fn show_left(held: &[usize], call: Call)
+    requires { ⌜ Counts (now held) ⌝ }
 {
     let Call::Take = call else {
         return;
     };
     say(b"    sets left: ");
-    say_number(sets_left(
-        all,
-        names,
-        texts,
-        lens,
-        plans,
-        filed,
-        name,
-        text,
-        answers,
-        values,
-        held,
-    ));
+    say_number(sets_left(held, PLAYER));
     say(b"\n");
 }
 
@@ -203,20 +187,7 @@ fn shown(
         buf,
     );
     show_after(call, answer, buf);
-    show_left(
-        all,
-        names,
-        texts,
-        lens,
-        plans,
-        filed,
-        name,
-        text,
-        answers,
-        values,
-        held,
-        call,
-    );
+    show_left(held, call);
 }
 
 // A call with so many marks for a buffer.

@@ -11,6 +11,8 @@ use crate::records::false_values;
 use crate::records::true_records;
 use crate::show::say;
 use crate::states::play;
+use bench::LAST_TABLET;
+use tablets::counts::LAST;
 
 fn main() {
     let mut all = [0u8; 4096];
@@ -19,11 +21,12 @@ fn main() {
     let mut lens = [0usize; 8];
     let mut plans = [0usize; 1856];
     let mut filed = [0usize; 2];
-    let mut name = [0u8; 16];
-    let mut text = [0u8; 1024];
-    let mut answers = [0u8; 1700];
-    let mut values = [0usize; 104];
-    let mut held = [0usize; 10];
+    let mut name = [0u8; 480];
+    let mut text = [0u8; 30720];
+    let mut answers = [0u8; 51000];
+    let mut values = [0usize; 3120];
+    let mut held = [0usize; 302];
+    held[LAST] = LAST_TABLET;
     play(
         &mut all,
         &mut names,

@@ -1,6 +1,7 @@
 // A script, line by line: the way of forms through the states, with a take in each.
 ghost use Prim.Native.Nat.{_≤_};
-ghost use Rattle.call.specs.Call.{memoryOf, Reached};
+ghost use Rattle.call.specs.Call.{memoryOf};
+ghost use Rattle.tablets.specs.Calls.{Reached};
 use crate::lent::Call;
 use crate::lent::lent;
 use crate::show::say;

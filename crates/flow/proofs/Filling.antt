@@ -7,10 +7,12 @@ use native.Mathlib.Omega.{arith}
 use lib.ListN.{length, take, drop, drop-of-length-le}
 use lib.Dec.{eqb, ltb}
 use borrow.Author.Tests.{eqb-true, ltb-true, ltb-false}
+use Rattle.paper.specs.Byte.{if_then_else_}
 use Rattle.paper.specs.Form.{Form}
 use Rattle.paper.specs.Line.{lf, kept}
 use Rattle.paper.specs.Bench as P
 use Rattle.paper.specs.State.{Led, Sound, hearing, taking}
+use Rattle.paper.specs.Class.{thirty, desk}
 use Rattle.paper.specs.Program.{enough, toTake}
 use Rattle.paper.proofs.Law.{by-test}
 use Rattle.paper.proofs.Test.{either}
@@ -19,11 +21,11 @@ use Rattle.paper.proofs.Invariant.{led-sane}
 use Rattle.command.specs.View.{width}
 use Rattle.text.specs.Place.{from}
 use Rattle.text.proofs.Written.{writes-none, writes-then, writes-length}
-use Rattle.session.specs.Outcome.{afterLine}
-use Rattle.call.specs.Call.{Memory, packedBench, Reached, SetsLeft}
+use Rattle.call.specs.Call.{Memory}
 use Rattle.listen.specs.Waiting.{Waiting, Comes}
-use Rattle.call.proofs.Leading.{OpensIn, opens-heard, opens-take}
-use Rattle.reports.specs.Said.{HearsAt, TakesAt}
+use Rattle.tablets.specs.Calls.{leftOf, SetsLeft}
+use Rattle.tablets.proofs.Leading.{reached-counts}
+use Rattle.reports.specs.Said.{Lone, Sole, HearsAt, TakesAt}
 use Rattle.flow.specs.Feed.{feed, line}
 use Rattle.flow.specs.declared.fill.Reach.{Reach}
 use Rattle.flow.specs.Emit.{Standing, silence, joined, heard, heardSays, taken, takenSays, waiting}
@@ -32,9 +34,9 @@ use Rattle.flow.proofs.Cutting.{Line, part-ends, kept-none, rest-inside
 use Rattle.flow.proofs.Gathering.{clean-more, heard-as}
 use Rattle.flow.proofs.Emitting.{joined-none, joined-assoc, emit-takes, emit-hears, emit-waits, after-takes, after-hears, after-waits}
 
--- the bench of a run that stands somewhere is one that calls lead to
-abbrev pub bench-at : {d : Desk} {s : Standing} → At d s → Reached (d .memory)
-bench-at {d} {s} a = record { paper = s .bench; number = a .number; led = a .led; opens = a .opens; is = a .is }
+-- a run that stands somewhere has its bench to itself
+abbrev pub bench-at : {d : Desk} {s : Standing} → At d s → Sole (d .memory)
+bench-at {d} {s} a = record { bench = s .bench; lone = a .lone }
 
 -- and some bytes of a line wait
 abbrev pub line-at : {d : Desk} {s : Standing} → At d s → Waiting (d .waiting) (d .run .len)
@@ -66,8 +68,13 @@ due-few forms (P.answering ls answers) h = omega arith
 due-few forms (P.ready ls answers) h = omega arith
 due-few forms (P.printing ls answers n c i) h = omega (arith, h .2 .counted)
 
-left-few : (memory : Memory) (n : ℕ) → Reached memory → SetsLeft memory n → n ≤ 65535
-left-few memory n r tells = let b = r .paper in omega (arith, tells .is r, due-few (b .forms) (b .session) (led-sane width (r .led) .session))
+due-at : {d : Desk} {s : Standing} → At d s → d .run .left ≤ 65535
+due-at {d} {s} a = omega (arith, a .leaves, a .due, due-few (s .bench .forms) (s .bench .session) (led-sane width (a .led) .session))
+
+-- what is left to the tablet is what its bench has left
+left-due : (memory : Memory) (b : P.Bench) (n : ℕ) → Lone memory b → SetsLeft (memory .held) 0 n → n ≡ toTake (b .session)
+unfolding reached-counts leftOf thirty desk if_then_else_
+left-due memory b n l tells = tells .is (reached-counts memory (l .reached)) ∙ ap (λ (x : P.Bench). toTake (x .session)) (l .is)
 
 -- behind a set one less is left to be taken
 due-less : (b : P.Bench) (s : P.Session) → Led width b → b .session ≡ s → toTake (P.takeSet enough b .next .session) ≡ toTake s - 1
@@ -167,10 +174,8 @@ module _ {input : List ℕ} {p : Place} {out₀ err₀ : List ℕ} (t : Stands (
               leads = record {
                 here = taken s;
                 at = record {
-                  number = a .number;
+                  lone = takes .leaves (s .bench) (a .lone);
                   led = taking (a .led) enough;
-                  opens = opens-take enough (a .number) (s .bench .forms) (s .bench .session) (a .opens);
-                  is = takes .leaves (bench-at a);
                   waits = a .waits;
                   clean = a .clean;
                   counts = a .counts;
@@ -181,7 +186,7 @@ module _ {input : List ℕ} {p : Place} {out₀ err₀ : List ℕ} (t : Stands (
                 says = λ more. emit-takes s (from input (p .next) ++ more) (omega (arith, a .leaves));
                 stays = λ more. after-takes s (from input (p .next) ++ more) (omega (arith, a .leaves));
               };
-              outs = takes .outs (bench-at a);
+              outs = takes .outs (s .bench) (a .lone);
               errs = writes-none err₀ (p .err) (i .errInside);
             })
             (omega (arith, t .few)) (omega arith) (i .nextInside) (omega arith);
@@ -213,10 +218,8 @@ module _ {input : List ℕ} {p : Place} {out₀ err₀ : List ℕ} (t : Stands (
           leads = record {
             here = waiting s w;
             at = record {
-              number = a .number;
+              lone = a .lone;
               led = a .led;
-              opens = a .opens;
-              is = a .is;
               waits = comes .comes (s .wait) (a .waits);
               clean = clean-more (s .wait) (from input (p .next)) (a .clean);
               counts = a .counts;
@@ -256,47 +259,41 @@ module _ {input : List ℕ} {p : Place} {out₀ err₀ : List ℕ} (t : Stands (
         (g : Gathered (p .desk .waiting) (p .desk .run .len) rest new n)
         (next : Memory) (out : List ℕ) (outEnd : ℕ) (err : List ℕ) (errEnd : ℕ)
         (hears : HearsAt (p .desk .memory) (lineBy (p .desk .run .len) rest (take n new)) (p .desk .run .lines + 1) out₀ (p .out) err₀ (p .err) next out outEnd err errEnd)
-        (left : ℕ) (tells : SetsLeft next left) where
+        (left : ℕ) (tells : SetsLeft (next .held) 0 left) where
       puts-hears : (s : Standing) → At (p .desk) s → Puts s input p out₀ err₀ (hearing-on end new next outEnd errEnd left) out err
       unfolding heard heardSays P.hear
       puts-hears s a =
           let said : List ℕ = lineBy (p .desk .run .len) rest (take n new) in
           let w : List ℕ = s .wait ++ kept rest in
           let same : P.hear width enough (s .bench) said ≡ P.hear width enough (s .bench) w = heard-as (s .bench) (s .wait) (p .desk .waiting) (p .desk .run .len) rest new n (a .waits) (a .clean) g in
-          let number : ℕ = afterLine (a .number) (s .bench .forms) (s .bench .session) (kept said) in
           let counts : p .desk .run .lines + 1 ≡ s .lines + 1 = ap (λ k. k + 1) (a .counts) in
-          let led : Led width (P.hear width enough (s .bench) w .next) = hearing (a .led) enough w in
-          let held : OpensIn number (P.hear width enough (s .bench) said) = opens-heard enough (a .number) (s .bench .forms) (s .bench .session) (kept said) (a .opens) in
-          let opens : OpensIn number (P.hear width enough (s .bench) w) = rw same at held in
-          let is : next ≡ packedBench (P.hear width enough (s .bench) w .next) number = hears .leaves (bench-at a) ∙ ap (λ o. packedBench (o .next) number) same in
+          let lone : Lone next (P.hear width enough (s .bench) w .next) = rw same at (hears .leaves (s .bench) (a .lone)) in
           let fed : (more : List ℕ) → feed (s .wait) (from input (p .next) ++ more) ≡ line w (from input (end + 1) ++ more) =
           λ more. ap (λ x. feed (s .wait) (x ++ more)) (lies .is) ∙ ap (feed (s .wait)) (append-assoc rest (lf ∷ from input (end + 1)) more) ∙ feed-line (s .wait) rest (from input (end + 1) ++ more) (lies .inner) in
           record {
             leads = record {
               here = heard s w;
               at = record {
-                number = number;
-                led = led;
-                opens = opens;
-                is = is;
+                lone = lone;
+                led = hearing (a .led) enough w;
                 waits = record { front = refl; counts = refl; room = g .size ∙ a .waits .room };
                 clean = kept-none;
                 counts = counts;
-                leaves = tells .is (record { paper = P.hear width enough (s .bench) w .next; number = number; led = led; opens = opens; is = is });
+                leaves = left-due next _ left lone tells;
                 due = refl;
               };
               said = heardSays s w;
               says = λ more. emit-hears s (from input (p .next) ++ more) w (from input (end + 1) ++ more) (sym (a .leaves) ∙ none) (fed more);
               stays = λ more. after-hears s (from input (p .next) ++ more) w (from input (end + 1) ++ more) (sym (a .leaves) ∙ none) (fed more);
             };
-            outs = rw same at (hears .outs (bench-at a));
-            errs = rw (same, counts) at (hears .errs (bench-at a));
+            outs = rw same at (hears .outs (s .bench) (a .lone));
+            errs = rw (same, counts) at (hears .errs (s .bench) (a .lone));
           }
 
       steps-hears : Steps input p out₀ err₀ (hearing-on end new next outEnd errEnd left) false out err
       unfolding weight
       steps-hears =
-          let few = left-few next left (hears .reached) tells in
+          let few : left ≤ 65535 = due-at (puts-hears (t .paper) (t .at) .leads .at) in
           record {
             goes = goes-by t puts-hears few (omega (arith, lies .before)) (omega (arith, before)) (omega (arith, before, lies .before));
             ends = λ u. absurd (false≢true u);
@@ -309,7 +306,7 @@ module _ {input : List ℕ} {p : Place} {out₀ err₀ : List ℕ} (t : Stands (
         → (said : List ℕ) → said ≡ lineBy (p .desk .run .len) (take (end - p .next) (drop (p .next) input)) (take n new)
         → (next : Memory) (out : List ℕ) (outEnd : ℕ) (err : List ℕ) (errEnd : ℕ)
         → HearsAt (p .desk .memory) said (p .desk .run .lines + 1) out₀ (p .out) err₀ (p .err) next out outEnd err errEnd
-        → (left : ℕ) → SetsLeft next left → Steps input p out₀ err₀ (hearing-on end new next outEnd errEnd left) false out err
+        → (left : ℕ) → SetsLeft (next .held) 0 left → Steps input p out₀ err₀ (hearing-on end new next outEnd errEnd left) false out err
     steps-heard end ending before new n g said is next out outEnd err errEnd hears left tells =
         steps-hears end before _ new n (part-ends input (p .next) end ending before) g next out outEnd err errEnd (rw is at hears) left tells
 

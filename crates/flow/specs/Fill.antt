@@ -14,9 +14,9 @@ use Rattle.command.specs.View.{width}
 use Rattle.text.specs.Place.{from}
 use Rattle.text.specs.Write.{Writes}
 use Rattle.form.specs.Walk.{firstLine}
-use Rattle.session.specs.Memory.{Opens}
-use Rattle.call.specs.Call.{Memory, packedBench}
+use Rattle.call.specs.Call.{Memory}
 use Rattle.listen.specs.Waiting.{Waits, Comes}
+use Rattle.reports.specs.Said.{Lone}
 use Rattle.flow.specs.Emit.{Standing, joined, after, emit}
 use Rattle.flow.specs.declared.fill.Run.{Run}
 use Rattle.flow.specs.declared.fill.Reach.{Reach}
@@ -44,13 +44,11 @@ placeOf r memory waiting = record { desk = deskOf (r .run) memory waiting; next 
 abbrev pub placeIn : Desk → ℕ → Place
 placeIn d next = record { desk = d; next = next; out = 0; err = 0 }
 
--- the memory of a run that stands there, with a bench that calls lead to; no dropped byte waits, and the sets that are still to be taken
--- are those that the bench has left
+-- the memory of a run that stands there, with a bench that calls lead to, which tablet 0 has before it; no dropped byte waits, and the
+-- sets that are still to be taken are those that the bench has left
 pub record At (d : Desk) (s : Standing) : Type 0 where
-  pub number : ℕ
+  pub lone : Lone (d .memory) (s .bench)
   pub led : Led width (s .bench)
-  pub opens : Opens (s .bench .forms) number (s .bench .session)
-  pub is : d .memory ≡ packedBench (s .bench) number
   pub waits : Waits (s .wait) (d .waiting) (d .run .len)
   pub clean : kept (s .wait) ≡ s .wait
   pub counts : d .run .lines ≡ s .lines

@@ -6,12 +6,13 @@ ghost use Rattle.call.specs.Call.{memoryOf};
 ghost use Rattle.listen.specs.Waiting.{Waiting};
 ghost use Rattle.flow.specs.Fill.{deskOf, placeOf, Stands, Inside, Room, Ending, Clear, Gathered, lineBy, Steps, Fills};
 use crate::cut::cut_at;
-use call::sets_left;
 use listen::wait::put_kept;
+use reports::calls::PROGRAM;
 use reports::calls::REFUSAL_ROOM;
 use reports::calls::REPLY_ROOM;
 use reports::calls::hear_line;
 use reports::calls::take_set;
+use tablets::counts::sets_left;
 
 // Where a run stands beside its bench: the bytes that wait for the end of their line, the lines that have come, and the sets that are
 // still to be taken.
@@ -206,19 +207,7 @@ fn step_hear(
         reach.err,
         shown,
     );
-    let left = sets_left(
-        all,
-        names,
-        texts,
-        lens,
-        plans,
-        filed,
-        name,
-        text,
-        answers,
-        values,
-        held,
-    );
+    let left = sets_left(held, PROGRAM);
     let run = Run {
         len: 0,
         lines,

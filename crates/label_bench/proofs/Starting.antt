@@ -1,7 +1,7 @@
 -- A bench that has just begun, and the program's buffers.
 use Prim.Native.Nat.{ℕ}
 use mathlib.Core.List.{List}
-use Rattle.call.specs.Call.{Begins}
+use Rattle.tablets.specs.Calls.{Begins}
 use Rattle.program.specs.Pass.{Starting}
 use Rattle.bench.specs.Whole.{memory}
 use Rattle.bench.specs.declared.Bench.{Bench}

@@ -7,9 +7,11 @@ use native.Mathlib.Omega.{arith}
 use lib.ListN.{length, take, length-append, length-take}
 use lib.IntN.{ℤ}
 use Rattle.paper.specs.Bench.{begin}
+use Rattle.paper.specs.Class.{beginClass, desk}
 use Rattle.paper.specs.Line.{kept}
 use Rattle.paper.specs.State.{begun}
 use Rattle.paper.specs.Program.{toTake}
+use Rattle.paper.proofs.Alone.{begin-alone}
 use Rattle.paper.proofs.Test.{either}
 use Rattle.text.specs.Place.{from}
 use Rattle.streams.specs.Streams.{Reads, Writes}
@@ -18,7 +20,10 @@ use Rattle.streams.specs.declared.Read.{Read}
 use Rattle.streams.specs.declared.Read.the-variants.{Bytes, End, Failed}
 use Rattle.streams.specs.declared.Written.{Written}
 use Rattle.streams.specs.declared.Written.the-variants as W
-use Rattle.call.specs.Call.{Memory, Reached, Begins}
+use Rattle.call.specs.Call.{Memory}
+use Rattle.tablets.specs.Calls.{Reached, Begins}
+use Rattle.tablets.proofs.Leading.{begins-on}
+use Rattle.reports.specs.Said.{Lone}
 use Rattle.flow.specs.declared.fill.Run.{Run}
 use Rattle.program.specs.declared.Passed.{Passed}
 use Rattle.flow.specs.Emit.{Standing, start, joined}
@@ -210,15 +215,18 @@ bytes-counted d input n t = record { stands = t .stands; countable = omega (arit
 abbrev begins-run : Run
 begins-run = record { len = 0; lines = 0; left = 0 }
 
--- it stands at the start with a bench that has just begun
+-- tablet 0 has a bench that has just begun to itself
+begins-lone : (m : Memory) → Begins m → Lone m begin
+unfolding begins-on beginClass desk begin
+begins-lone m b = record { reached = begins-on m b; alone = begin-alone 0 (omega arith); is = refl }
+
+-- with it a run stands at the start
 pub begins-at : (m : Memory) (wait : List ℕ) → Begins m → length wait ≡ 257 → At (deskOf begins-run m wait) start
 unfolding begin kept toTake
 begins-at m wait b e =
     record {
-      number = 0;
+      lone = begins-lone m b;
       led = begun;
-      opens = tt;
-      is = b .is 0;
       waits = record { front = refl; counts = refl; room = e };
       clean = refl;
       counts = refl;
@@ -228,7 +236,7 @@ begins-at m wait b e =
 
 -- memory of a run that stands somewhere is memory that calls lead to
 pub stands-reached : {d : Desk} → Stands d → Reached (d .memory)
-stands-reached t = let a = t .at in record { paper = t .paper .bench; number = a .number; led = a .led; opens = a .opens; is = a .is }
+stands-reached t = t .at .lone .reached
 
 -- the run stands where calls and input lead to, no more lines have come than the reads so far can bring, and memory and the buffers have
 -- the sizes that they had

@@ -7,7 +7,8 @@ use lib.ListN.{length, take}
 use Rattle.text.specs.Place.{from}
 use Rattle.streams.specs.declared.Read.{Read}
 use Rattle.streams.specs.declared.Read.the-variants.{Bytes, End, Failed}
-use Rattle.call.specs.Call.{Memory, Begins}
+use Rattle.call.specs.Call.{Memory}
+use Rattle.tablets.specs.Calls.{Begins}
 use Rattle.flow.specs.Emit.{Standing}
 use Rattle.flow.specs.Fill.{Desk, placeIn, At, Stands, Leads, UsedUp, weight}
 

@@ -27,7 +27,7 @@ digits-few n h = decimal-within 20 n (omega arith) (omega arith)
 
 -- the refusals that give one number: all but the ninth
 abbrev others : List ℕ
-others = 0 ∷ 1 ∷ 2 ∷ 3 ∷ 4 ∷ 5 ∷ 6 ∷ 7 ∷ 9 ∷ 10 ∷ 11 ∷ 12 ∷ 13 ∷ 14 ∷ 15 ∷ []
+others = 0 ∷ 1 ∷ 2 ∷ 3 ∷ 4 ∷ 5 ∷ 6 ∷ 7 ∷ 9 ∷ 10 ∷ 11 ∷ 12 ∷ 13 ∷ 14 ∷ 15 ∷ 16 ∷ 17 ∷ 18 ∷ []
 
 -- it is their own
 figures-one : (why : Refusal) → OneOf others (tagOf Tag.the-type why) → R.figures (refusalOf why) ≡ numberOf (refusalOf why) ∷ []
@@ -48,6 +48,9 @@ figures-one W.Unfit h = refl
 figures-one W.Overrun h = refl
 figures-one W.TooShort h = refl
 figures-one W.NotPrinting h = refl
+figures-one W.OthersCollect h = refl
+figures-one W.NoTablet h = refl
+figures-one W.HeldOpen h = refl
 
 -- the line of a refusal that gives one number
 pub report-one : (old : List ℕ) (at k : ℕ) (mid : List ℕ) (a n : ℕ) (new : List ℕ) (r : ℕ) (why : Refusal) → OneOf others (tagOf Tag.the-type why)

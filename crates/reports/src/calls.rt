@@ -8,12 +8,15 @@ ghost use Rattle.paper.specs.Command.{isShown};
 ghost use Rattle.paper.specs.Refusal as R;
 ghost use Rattle.paper.specs.Program.{outOf};
 ghost use Rattle.command.specs.Answer as C;
-ghost use Rattle.call.specs.Call.{memoryOf, Reached};
-ghost use Rattle.reports.specs.Said.{HearsAt, TakesAt};
+ghost use Rattle.call.specs.Call.{memoryOf};
+ghost use Rattle.reports.specs.Said.{Sole, HearsAt, TakesAt};
 use crate::refusals::put_refusal;
-use call::hear_known;
-use call::take;
 use command::Answer;
+use tablets::lines::hear_from;
+use tablets::sets::take;
+
+// The tablet that the program is: it has the bench to itself.
+pub const PROGRAM: usize = 0;
 
 // Room for any reply or set: the paper's `enough`.
 pub const REPLY_ROOM: usize = 10291;
@@ -59,13 +62,13 @@ pub fn hear_line(
     place: usize,
     shown: bool,
 ) -> Called
-    requires { ⌜ Reached (memoryOf (now all) (now names) (now texts) (now lens) (now plans) (now filed) (now name) (now text) (now answers) (now values) (now held)) ⌝ }
+    requires { ⌜ Sole (memoryOf (now all) (now names) (now texts) (now lens) (now plans) (now filed) (now name) (now text) (now answers) (now values) (now held)) ⌝ }
     requires { ⌜ (at + 10291 ≤ length (now out)) × (place + 64 ≤ length (now err)) ⌝ }
     requires { ⌜ (shown ≡ true → every isShown (now s) ≡ true) ⌝ }
     ensures { λ r. ⌜ HearsAt (memoryOf (now (all .entry)) (now (names .entry)) (now (texts .entry)) (now (lens .entry)) (now (plans .entry)) (now (filed .entry)) (now (name .entry)) (now (text .entry)) (now (answers .entry)) (now (values .entry)) (now (held .entry))) (now (s .entry)) k (now (out .entry)) at (now (err .entry)) place (memoryOf (now (all .exit)) (now (names .exit)) (now (texts .exit)) (now (lens .exit)) (now (plans .exit)) (now (filed .exit)) (now (name .exit)) (now (text .exit)) (now (answers .exit)) (now (values .exit)) (now (held .exit))) (now (out .exit)) (r .out) (now (err .exit)) (r .err) ⌝ }
 {
     let end = at + REPLY_ROOM;
-    let answer = hear_known(
+    let answer = hear_from(
         all,
         names,
         texts,
@@ -77,6 +80,7 @@ pub fn hear_line(
         answers,
         values,
         held,
+        PROGRAM,
         s,
         &mut out[at..end],
         shown,
@@ -103,12 +107,12 @@ pub fn take_set(
     out: &mut [u8],
     at: usize,
 ) -> usize
-    requires { ⌜ Reached (memoryOf (now all) (now names) (now texts) (now lens) (now plans) (now filed) (now name) (now text) (now answers) (now values) (now held)) ⌝ }
+    requires { ⌜ Sole (memoryOf (now all) (now names) (now texts) (now lens) (now plans) (now filed) (now name) (now text) (now answers) (now values) (now held)) ⌝ }
     requires { ⌜ at + 10291 ≤ length (now out) ⌝ }
     ensures { λ r. ⌜ TakesAt (memoryOf (now (all .entry)) (now (names .entry)) (now (texts .entry)) (now (lens .entry)) (now (plans .entry)) (now (filed .entry)) (now (name .entry)) (now (text .entry)) (now (answers .entry)) (now (values .entry)) (now (held .entry))) (now (out .entry)) at (memoryOf (now (all .entry)) (now (names .entry)) (now (texts .entry)) (now (lens .entry)) (now (plans .entry)) (now (filed .entry)) (now (name .exit)) (now (text .exit)) (now (answers .exit)) (now (values .exit)) (now (held .exit))) (now (out .exit)) r ⌝ }
 {
     let end = at + REPLY_ROOM;
-    let answer = take(
+    let served = take(
         all,
         names,
         texts,
@@ -122,5 +126,6 @@ pub fn take_set(
         held,
         &mut out[at..end],
     );
+    let answer = served.answer;
     at + bytes_of(answer)
 }

@@ -1,16 +1,18 @@
--- Arrays of zeros are a bench that is reached.
+-- Arrays of zeros, but for the tablet last served, are a bench that is reached.
 use borrow.Author.Needs.{needs}
-use Rattle.bench.proofs.Beginning.{zeros-begin}
+use Rattle.tablets.proofs.Leading.{begins-on}
+use Rattle.tablets.proofs.Beginning.{zeros-begin}
 use Rattle.drive.proofs.main.Statement.{statement}
 use Rattle.drive.proofs.main.Tie as tie
 
 play-requires : tie.Need-play-requires
-play-requires c κs = zeros-begin .reached
+play-requires c κs = begins-on _ zeros-begin
 
 pub main-spec : {M : Type 1} → statement M
 main-spec =
     tie.close
     (tie.spec
+    (λ c. search needs)
     (λ c. search needs)
     (λ c. search needs)
     (λ c. search needs)

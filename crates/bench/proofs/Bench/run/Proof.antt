@@ -122,10 +122,10 @@ module _ {M : Type 1} (𝓤 : URA M) (H : Heap 𝓤) (A : Atoms 𝓤) (at-mem : 
 
     -- the call: its arguments, what it asks, and the last values that it leaves
     abbrev sent : ℕ → GName → ℕ → GName → ℕ → GName → ℕ → GName → ℕ → GName → ℕ → GName → ℕ → GName → ℕ → GName → ℕ → GName → ℕ → GName → ℕ → GName → RefT (List ℕ) × (RefT (List ℕ) × (RefT (List ℕ) × (RefT (List ℕ) × (RefT (List ℕ) × (RefT (List ℕ) × (RefT (List ℕ) × (RefT (List ℕ) × (RefT (List ℕ) × (RefT (List ℕ) × (RefT (List ℕ) × (RefT (List ℕ) × (RefT (List ℕ) × (RefT (List ℕ) × (Unit {0}))))))))))))))
-    sent ν₀ δ₀ ν₁ δ₁ ν₂ δ₂ ν₃ δ₃ ν₄ δ₄ ν₅ δ₅ ν₆ δ₆ ν₇ δ₇ ν₈ δ₈ ν₉ δ₉ ν₁₀ δ₁₀ = (record { ptr = (b, o + 0); name = δ₀; now = h .forms }, (record { ptr = (b, o + 4096); name = δ₁; now = h .names }, (record { ptr = (b, o + 4224); name = δ₂; now = h .texts }, (record { ptr = (b, o + 4288); name = δ₃; now = h .lens }, (record { ptr = (b, o + 4352); name = δ₄; now = h .plans }, (record { ptr = (b, o + 19200); name = δ₅; now = h .filed }, (record { ptr = (b, o + 19216); name = δ₆; now = h .name }, (record { ptr = (b, o + 19232); name = δ₇; now = h .text }, (record { ptr = (b, o + 20256); name = δ₈; now = h .answers }, (record { ptr = (b, o + 21960); name = δ₉; now = h .values }, (record { ptr = (b, o + 22792); name = δ₁₀; now = h .held }, (s₁, (s₂, (s₃, tt))))))))))))))
+    sent ν₀ δ₀ ν₁ δ₁ ν₂ δ₂ ν₃ δ₃ ν₄ δ₄ ν₅ δ₅ ν₆ δ₆ ν₇ δ₇ ν₈ δ₈ ν₉ δ₉ ν₁₀ δ₁₀ = (record { ptr = (b, o + 0); name = δ₀; now = h .forms }, (record { ptr = (b, o + 4096); name = δ₁; now = h .names }, (record { ptr = (b, o + 4224); name = δ₂; now = h .texts }, (record { ptr = (b, o + 4288); name = δ₃; now = h .lens }, (record { ptr = (b, o + 4352); name = δ₄; now = h .plans }, (record { ptr = (b, o + 19200); name = δ₅; now = h .filed }, (record { ptr = (b, o + 19216); name = δ₆; now = h .name }, (record { ptr = (b, o + 19696); name = δ₇; now = h .text }, (record { ptr = (b, o + 50416); name = δ₈; now = h .answers }, (record { ptr = (b, o + 101416); name = δ₉; now = h .values }, (record { ptr = (b, o + 126376); name = δ₁₀; now = h .held }, (s₁, (s₂, (s₃, tt))))))))))))))
 
     abbrev at-call : ℕ → GName → ℕ → GName → ℕ → GName → ℕ → GName → ℕ → GName → ℕ → GName → ℕ → GName → ℕ → GName → ℕ → GName → ℕ → GName → ℕ → GName → Callee .Ghost
-    at-call ν₀ δ₀ ν₁ δ₁ ν₂ δ₂ ν₃ δ₃ ν₄ δ₄ ν₅ δ₅ ν₆ δ₆ ν₇ δ₇ ν₈ δ₈ ν₉ δ₉ ν₁₀ δ₁₀ = (((ν₀ ∷ [], (ν₁ ∷ [], (ν₂ ∷ [], (ν₃ ∷ [], (ν₄ ∷ [], (ν₅ ∷ [], (ν₆ ∷ [], (ν₇ ∷ [], (ν₈ ∷ [], (ν₉ ∷ [], (ν₁₀ ∷ [], (κ₁, (κ₂, (κ₃, tt)))))))))))))), (fullShare, (fullShare, (fullShare, (fullShare, (fullShare, (fullShare, (fullShare, (fullShare, (fullShare, (fullShare, (fullShare, (q₁, (q₂, (q₃, tt)))))))))))))), tt, sent ν₀ δ₀ ν₁ δ₁ ν₂ δ₂ ν₃ δ₃ ν₄ δ₄ ν₅ δ₅ ν₆ δ₆ ν₇ δ₇ ν₈ δ₈ ν₉ δ₉ ν₁₀ δ₁₀, (sliceVal (b, o + 0) 4096 ∷ [], (sliceVal (b, o + 4096) 128 ∷ [], (sliceVal (b, o + 4224) 8 ∷ [], (sliceVal (b, o + 4288) 8 ∷ [], (sliceVal (b, o + 4352) 1856 ∷ [], (sliceVal (b, o + 19200) 2 ∷ [], (sliceVal (b, o + 19216) 16 ∷ [], (sliceVal (b, o + 19232) 1024 ∷ [], (sliceVal (b, o + 20256) 1700 ∷ [], (sliceVal (b, o + 21960) 104 ∷ [], (sliceVal (b, o + 22792) 10 ∷ [], (v₁ ∷ [], (v₂ ∷ [], (v₃ ∷ [], tt))))))))))))))), tt)
+    at-call ν₀ δ₀ ν₁ δ₁ ν₂ δ₂ ν₃ δ₃ ν₄ δ₄ ν₅ δ₅ ν₆ δ₆ ν₇ δ₇ ν₈ δ₈ ν₉ δ₉ ν₁₀ δ₁₀ = (((ν₀ ∷ [], (ν₁ ∷ [], (ν₂ ∷ [], (ν₃ ∷ [], (ν₄ ∷ [], (ν₅ ∷ [], (ν₆ ∷ [], (ν₇ ∷ [], (ν₈ ∷ [], (ν₉ ∷ [], (ν₁₀ ∷ [], (κ₁, (κ₂, (κ₃, tt)))))))))))))), (fullShare, (fullShare, (fullShare, (fullShare, (fullShare, (fullShare, (fullShare, (fullShare, (fullShare, (fullShare, (fullShare, (q₁, (q₂, (q₃, tt)))))))))))))), tt, sent ν₀ δ₀ ν₁ δ₁ ν₂ δ₂ ν₃ δ₃ ν₄ δ₄ ν₅ δ₅ ν₆ δ₆ ν₇ δ₇ ν₈ δ₈ ν₉ δ₉ ν₁₀ δ₁₀, (sliceVal (b, o + 0) 4096 ∷ [], (sliceVal (b, o + 4096) 128 ∷ [], (sliceVal (b, o + 4224) 8 ∷ [], (sliceVal (b, o + 4288) 8 ∷ [], (sliceVal (b, o + 4352) 1856 ∷ [], (sliceVal (b, o + 19200) 2 ∷ [], (sliceVal (b, o + 19216) 480 ∷ [], (sliceVal (b, o + 19696) 30720 ∷ [], (sliceVal (b, o + 50416) 51000 ∷ [], (sliceVal (b, o + 101416) 3120 ∷ [], (sliceVal (b, o + 126376) 302 ∷ [], (v₁ ∷ [], (v₂ ∷ [], (v₃ ∷ [], tt))))))))))))))), tt)
 
     abbrev Asked : ℕ → GName → ℕ → GName → ℕ → GName → ℕ → GName → ℕ → GName → ℕ → GName → ℕ → GName → ℕ → GName → ℕ → GName → ℕ → GName → ℕ → GName → SProp 𝓤
     Asked ν₀ δ₀ ν₁ δ₁ ν₂ δ₂ ν₃ δ₃ ν₄ δ₄ ν₅ δ₅ ν₆ δ₆ ν₇ δ₇ ν₈ δ₈ ν₉ δ₉ ν₁₀ δ₁₀ = callee.clauses 𝓤 H A at-mem run (ν₀ ∷ [], (ν₁ ∷ [], (ν₂ ∷ [], (ν₃ ∷ [], (ν₄ ∷ [], (ν₅ ∷ [], (ν₆ ∷ [], (ν₇ ∷ [], (ν₈ ∷ [], (ν₉ ∷ [], (ν₁₀ ∷ [], (κ₁, (κ₂, (κ₃, tt)))))))))))))) (sent ν₀ δ₀ ν₁ δ₁ ν₂ δ₂ ν₃ δ₃ ν₄ δ₄ ν₅ δ₅ ν₆ δ₆ ν₇ δ₇ ν₈ δ₈ ν₉ δ₉ ν₁₀ δ₁₀) .requires tt
@@ -146,7 +146,7 @@ module _ {M : Type 1} (𝓤 : URA M) (H : Heap 𝓤) (A : Atoms 𝓤) (at-mem : 
     says-same ν₀ δ₀ ν₁ δ₁ ν₂ δ₂ ν₃ δ₃ ν₄ δ₄ ν₅ δ₅ ν₆ δ₆ ν₇ δ₇ ν₈ δ₈ ν₉ δ₉ ν₁₀ δ₁₀ r zs = refl
 
     abbrev handed-over : ℕ → GName → ℕ → GName → ℕ → GName → ℕ → GName → ℕ → GName → ℕ → GName → ℕ → GName → ℕ → GName → ℕ → GName → ℕ → GName → ℕ → GName → List (Item 𝓤)
-    handed-over ν₀ δ₀ ν₁ δ₁ ν₂ δ₂ ν₃ δ₃ ν₄ δ₄ ν₅ δ₅ ν₆ δ₆ ν₇ δ₇ ν₈ δ₈ ν₉ δ₉ ν₁₀ δ₁₀ = (‵ (flft (ν₀ ∷ []) fullShare) ∷ ‵ (flft (ν₁ ∷ []) fullShare) ∷ ‵ (flft (ν₂ ∷ []) fullShare) ∷ ‵ (flft (ν₃ ∷ []) fullShare) ∷ ‵ (flft (ν₄ ∷ []) fullShare) ∷ ‵ (flft (ν₅ ∷ []) fullShare) ∷ ‵ (flft (ν₆ ∷ []) fullShare) ∷ ‵ (flft (ν₇ ∷ []) fullShare) ∷ ‵ (flft (ν₈ ∷ []) fullShare) ∷ ‵ (flft (ν₉ ∷ []) fullShare) ∷ ‵ (flft (ν₁₀ ∷ []) fullShare) ∷ ‵ (flft κ₁ q₁) ∷ ‵ (flft κ₂ q₂) ∷ ‵ (flft κ₃ q₃) ∷ ‵ ftrue ∷ ‵ ((mutably (named 0) (ν₀ ∷ []) u8 b (o + 0) (h .forms)) .borrower 4096 δ₀) ∷ ‵ ((mutably (named 1) (ν₁ ∷ []) u8 b (o + 4096) (h .names)) .borrower 128 δ₁) ∷ ‵ ((mutably (named 2) (ν₂ ∷ []) usize b (o + 4224) (h .texts)) .borrower 8 δ₂) ∷ ‵ ((mutably (named 3) (ν₃ ∷ []) usize b (o + 4288) (h .lens)) .borrower 8 δ₃) ∷ ‵ ((mutably (named 4) (ν₄ ∷ []) usize b (o + 4352) (h .plans)) .borrower 1856 δ₄) ∷ ‵ ((mutably (named 5) (ν₅ ∷ []) usize b (o + 19200) (h .filed)) .borrower 2 δ₅) ∷ ‵ ((mutably (named 6) (ν₆ ∷ []) u8 b (o + 19216) (h .name)) .borrower 16 δ₆) ∷ ‵ ((mutably (named 7) (ν₇ ∷ []) u8 b (o + 19232) (h .text)) .borrower 1024 δ₇) ∷ ‵ ((mutably (named 8) (ν₈ ∷ []) u8 b (o + 20256) (h .answers)) .borrower 1700 δ₈) ∷ ‵ ((mutably (named 9) (ν₉ ∷ []) usize b (o + 21960) (h .values)) .borrower 104 δ₉) ∷ ‵ ((mutably (named 10) (ν₁₀ ∷ []) usize b (o + 22792) (h .held)) .borrower 10 δ₁₀) ∷ ‵ (Own₁) ∷ ‵ (Own₂) ∷ ‵ (Own₃) ∷ raw (Asked ν₀ δ₀ ν₁ δ₁ ν₂ δ₂ ν₃ δ₃ ν₄ δ₄ ν₅ δ₅ ν₆ δ₆ ν₇ δ₇ ν₈ δ₈ ν₉ δ₉ ν₁₀ δ₁₀) ∷ [])
+    handed-over ν₀ δ₀ ν₁ δ₁ ν₂ δ₂ ν₃ δ₃ ν₄ δ₄ ν₅ δ₅ ν₆ δ₆ ν₇ δ₇ ν₈ δ₈ ν₉ δ₉ ν₁₀ δ₁₀ = (‵ (flft (ν₀ ∷ []) fullShare) ∷ ‵ (flft (ν₁ ∷ []) fullShare) ∷ ‵ (flft (ν₂ ∷ []) fullShare) ∷ ‵ (flft (ν₃ ∷ []) fullShare) ∷ ‵ (flft (ν₄ ∷ []) fullShare) ∷ ‵ (flft (ν₅ ∷ []) fullShare) ∷ ‵ (flft (ν₆ ∷ []) fullShare) ∷ ‵ (flft (ν₇ ∷ []) fullShare) ∷ ‵ (flft (ν₈ ∷ []) fullShare) ∷ ‵ (flft (ν₉ ∷ []) fullShare) ∷ ‵ (flft (ν₁₀ ∷ []) fullShare) ∷ ‵ (flft κ₁ q₁) ∷ ‵ (flft κ₂ q₂) ∷ ‵ (flft κ₃ q₃) ∷ ‵ ftrue ∷ ‵ ((mutably (named 0) (ν₀ ∷ []) u8 b (o + 0) (h .forms)) .borrower 4096 δ₀) ∷ ‵ ((mutably (named 1) (ν₁ ∷ []) u8 b (o + 4096) (h .names)) .borrower 128 δ₁) ∷ ‵ ((mutably (named 2) (ν₂ ∷ []) usize b (o + 4224) (h .texts)) .borrower 8 δ₂) ∷ ‵ ((mutably (named 3) (ν₃ ∷ []) usize b (o + 4288) (h .lens)) .borrower 8 δ₃) ∷ ‵ ((mutably (named 4) (ν₄ ∷ []) usize b (o + 4352) (h .plans)) .borrower 1856 δ₄) ∷ ‵ ((mutably (named 5) (ν₅ ∷ []) usize b (o + 19200) (h .filed)) .borrower 2 δ₅) ∷ ‵ ((mutably (named 6) (ν₆ ∷ []) u8 b (o + 19216) (h .name)) .borrower 480 δ₆) ∷ ‵ ((mutably (named 7) (ν₇ ∷ []) u8 b (o + 19696) (h .text)) .borrower 30720 δ₇) ∷ ‵ ((mutably (named 8) (ν₈ ∷ []) u8 b (o + 50416) (h .answers)) .borrower 51000 δ₈) ∷ ‵ ((mutably (named 9) (ν₉ ∷ []) usize b (o + 101416) (h .values)) .borrower 3120 δ₉) ∷ ‵ ((mutably (named 10) (ν₁₀ ∷ []) usize b (o + 126376) (h .held)) .borrower 302 δ₁₀) ∷ ‵ (Own₁) ∷ ‵ (Own₂) ∷ ‵ (Own₃) ∷ raw (Asked ν₀ δ₀ ν₁ δ₁ ν₂ δ₂ ν₃ δ₃ ν₄ δ₄ ν₅ δ₅ ν₆ δ₆ ν₇ δ₇ ν₈ δ₈ ν₉ δ₉ ν₁₀ δ₁₀) ∷ [])
 
     hands-over : (ν₀ : ℕ) (δ₀ : GName) (ν₁ : ℕ) (δ₁ : GName) (ν₂ : ℕ) (δ₂ : GName) (ν₃ : ℕ) (δ₃ : GName) (ν₄ : ℕ) (δ₄ : GName) (ν₅ : ℕ) (δ₅ : GName) (ν₆ : ℕ) (δ₆ : GName) (ν₇ : ℕ) (δ₇ : GName) (ν₈ : ℕ) (δ₈ : GName) (ν₉ : ℕ) (δ₉ : GName) (ν₁₀ : ℕ) (δ₁₀ : GName) → ent 𝓤 (⋆ 𝓤 H A (handed-over ν₀ δ₀ ν₁ δ₁ ν₂ δ₂ ν₃ δ₃ ν₄ δ₄ ν₅ δ₅ ν₆ δ₆ ν₇ δ₇ ν₈ δ₈ ν₉ δ₉ ν₁₀ δ₁₀)) (Callee .pre (at-call ν₀ δ₀ ν₁ δ₁ ν₂ δ₂ ν₃ δ₃ ν₄ δ₄ ν₅ δ₅ ν₆ δ₆ ν₇ δ₇ ν₈ δ₈ ν₉ δ₉ ν₁₀ δ₁₀))
     hands-over ν₀ δ₀ ν₁ δ₁ ν₂ δ₂ ν₃ δ₃ ν₄ δ₄ ν₅ δ₅ ν₆ δ₆ ν₇ δ₇ ν₈ δ₈ ν₉ δ₉ ν₁₀ δ₁₀ =
@@ -178,7 +178,7 @@ module _ {M : Type 1} (𝓤 : URA M) (H : Heap 𝓤) (A : Atoms 𝓤) (at-mem : 
           assigns ! (addr ! (from ! (hop ! (look ! 88 refl) (fld ! refl (stop !))))) (from ! (stop !)) (init ! 54 refl (tt, tt)) $ assigns ! (agg ! (and-then ! (load ! (from ! (stop !)) (look ! 54 refl)) (and-then ! (lit ! tt) (no-more !)))) (from ! (stop !)) (init ! 52 refl (tt, (tt, (record { fits = lit< tt }, tt)))) $
           assigns ! (addr ! (from ! (hop ! (look ! 88 refl) (fld ! refl (stop !))))) (from ! (stop !)) (init ! 50 refl (tt, tt)) $ assigns ! (agg ! (and-then ! (load ! (from ! (stop !)) (look ! 50 refl)) (and-then ! (large ! record { fits = lit< tt }) (no-more !)))) (from ! (stop !)) (init ! 48 refl (tt, (tt, (record { fits = lit< tt }, tt)))) $
           assigns ! (addr ! (from ! (hop ! (look ! 88 refl) (fld ! refl (stop !))))) (from ! (stop !)) (init ! 46 refl (tt, tt)) $ assigns ! (agg ! (and-then ! (load ! (from ! (stop !)) (look ! 46 refl)) (and-then ! (large ! record { fits = lit< tt }) (no-more !)))) (from ! (stop !)) (init ! 44 refl (tt, (tt, (record { fits = lit< tt }, tt)))) $
-          assigns ! (addr ! (from ! (hop ! (look ! 88 refl) (fld ! refl (stop !))))) (from ! (stop !)) (init ! 42 refl (tt, tt)) $ assigns ! (agg ! (and-then ! (load ! (from ! (stop !)) (look ! 42 refl)) (and-then ! (lit ! tt) (no-more !)))) (from ! (stop !)) (init ! 40 refl (tt, (tt, (record { fits = lit< tt }, tt)))) $
+          assigns ! (addr ! (from ! (hop ! (look ! 88 refl) (fld ! refl (stop !))))) (from ! (stop !)) (init ! 42 refl (tt, tt)) $ assigns ! (agg ! (and-then ! (load ! (from ! (stop !)) (look ! 42 refl)) (and-then ! (large ! record { fits = lit< tt }) (no-more !)))) (from ! (stop !)) (init ! 40 refl (tt, (tt, (record { fits = lit< tt }, tt)))) $
           assigns ! (addr ! (from ! (hop ! (look ! 88 refl) (fld ! refl (stop !))))) (from ! (stop !)) (init ! 38 refl (tt, tt)) $ assigns ! (agg ! (and-then ! (load ! (from ! (stop !)) (look ! 38 refl)) (and-then ! (lit ! tt) (no-more !)))) (from ! (stop !)) (init ! 36 refl (tt, (tt, (record { fits = lit< tt }, tt)))) $
           assigns ! (addr ! (from ! (fld ! refl (hop ! (look-in ! 86 (sub ! 0 refl (whole !))) (stop !))))) (from ! (stop !)) (init ! 34 refl (tt, tt)) $ assigns ! (agg ! (and-then ! (load ! (from ! (stop !)) (look ! 34 refl)) (and-then ! (load ! (from ! (fld ! refl (stop !))) (look-in ! 86 (sub ! 1 refl (whole !)))) (no-more !)))) (from ! (stop !)) (init ! 32 refl (tt, (tt, (record { fits = are .1 .0 .0 .1 .0 }, tt)))) $
           assigns ! (addr ! (from ! (fld ! refl (hop ! (look-in ! 84 (sub ! 0 refl (whole !))) (stop !))))) (from ! (stop !)) (init ! 30 refl (tt, tt)) $ assigns ! (agg ! (and-then ! (load ! (from ! (stop !)) (look ! 30 refl)) (and-then ! (load ! (from ! (fld ! refl (stop !))) (look-in ! 84 (sub ! 1 refl (whole !)))) (no-more !)))) (from ! (stop !)) (init ! 28 refl (tt, (tt, (record { fits = are .1 .1 .0 .0 .1 .0 }, tt)))) $
@@ -190,11 +190,11 @@ module _ {M : Type 1} (𝓤 : URA M) (H : Heap 𝓤) (A : Atoms 𝓤) (at-mem : 
           lft-new ! tt (λ ν₃. move ! (18 ∷ []) $ use1 W (later (some (OnLoan (named 3) (ν₃ ∷ []) usize b (o + 4288) 𝓤 H A 8 (mutably (named 3) (ν₃ ∷ []) usize b (o + 4288) (h .lens)) (h .lens)))) (lends-whole (named 3) (ν₃ ∷ []) usize b (o + 4288) 𝓤 H A 8 W tt (lit< tt, lit< tt) (h .lens)) $ await ! tt $ pick ! (λ δ₃. learn ! (λ e₃. split ! $
           lft-new ! tt (λ ν₄. move ! (20 ∷ []) $ use1 W (later (some (OnLoan (named 4) (ν₄ ∷ []) usize b (o + 4352) 𝓤 H A 1856 (mutably (named 4) (ν₄ ∷ []) usize b (o + 4352) (h .plans)) (h .plans)))) (lends-whole (named 4) (ν₄ ∷ []) usize b (o + 4352) 𝓤 H A 1856 W tt (lit< tt, lit< tt) (h .plans)) $ await ! tt $ pick ! (λ δ₄. learn ! (λ e₄. split ! $
           lft-new ! tt (λ ν₅. move ! (22 ∷ []) $ use1 W (later (some (OnLoan (named 5) (ν₅ ∷ []) usize b (o + 19200) 𝓤 H A 2 (mutably (named 5) (ν₅ ∷ []) usize b (o + 19200) (h .filed)) (h .filed)))) (lends-whole (named 5) (ν₅ ∷ []) usize b (o + 19200) 𝓤 H A 2 W tt (lit< tt, lit< tt) (h .filed)) $ await ! tt $ pick ! (λ δ₅. learn ! (λ e₅. split ! $
-          lft-new ! tt (λ ν₆. move ! (24 ∷ []) $ use1 W (later (some (OnLoan (named 6) (ν₆ ∷ []) u8 b (o + 19216) 𝓤 H A 16 (mutably (named 6) (ν₆ ∷ []) u8 b (o + 19216) (h .name)) (h .name)))) (lends-whole (named 6) (ν₆ ∷ []) u8 b (o + 19216) 𝓤 H A 16 W tt (lit< tt, lit< tt) (h .name)) $ await ! tt $ pick ! (λ δ₆. learn ! (λ e₆. split ! $
-          lft-new ! tt (λ ν₇. move ! (26 ∷ []) $ use1 W (later (some (OnLoan (named 7) (ν₇ ∷ []) u8 b (o + 19232) 𝓤 H A 1024 (mutably (named 7) (ν₇ ∷ []) u8 b (o + 19232) (h .text)) (h .text)))) (lends-whole (named 7) (ν₇ ∷ []) u8 b (o + 19232) 𝓤 H A 1024 W tt (lit< tt, lit< tt) (h .text)) $ await ! tt $ pick ! (λ δ₇. learn ! (λ e₇. split ! $
-          lft-new ! tt (λ ν₈. move ! (28 ∷ []) $ use1 W (later (some (OnLoan (named 8) (ν₈ ∷ []) u8 b (o + 20256) 𝓤 H A 1700 (mutably (named 8) (ν₈ ∷ []) u8 b (o + 20256) (h .answers)) (h .answers)))) (lends-whole (named 8) (ν₈ ∷ []) u8 b (o + 20256) 𝓤 H A 1700 W tt (lit< tt, lit< tt) (h .answers)) $ await ! tt $ pick ! (λ δ₈. learn ! (λ e₈. split ! $
-          lft-new ! tt (λ ν₉. move ! (30 ∷ []) $ use1 W (later (some (OnLoan (named 9) (ν₉ ∷ []) usize b (o + 21960) 𝓤 H A 104 (mutably (named 9) (ν₉ ∷ []) usize b (o + 21960) (h .values)) (h .values)))) (lends-whole (named 9) (ν₉ ∷ []) usize b (o + 21960) 𝓤 H A 104 W tt (lit< tt, lit< tt) (h .values)) $ await ! tt $ pick ! (λ δ₉. learn ! (λ e₉. split ! $
-          lft-new ! tt (λ ν₁₀. move ! (31 ∷ []) $ use1 W (later (some (OnLoan (named 10) (ν₁₀ ∷ []) usize b (o + 22792) 𝓤 H A 10 (mutably (named 10) (ν₁₀ ∷ []) usize b (o + 22792) (h .held)) (h .held)))) (lends-whole (named 10) (ν₁₀ ∷ []) usize b (o + 22792) 𝓤 H A 10 W tt (lit< tt, lit< tt) (h .held)) $ await ! tt $ pick ! (λ δ₁₀. learn ! (λ e₁₀. split ! $
+          lft-new ! tt (λ ν₆. move ! (24 ∷ []) $ use1 W (later (some (OnLoan (named 6) (ν₆ ∷ []) u8 b (o + 19216) 𝓤 H A 480 (mutably (named 6) (ν₆ ∷ []) u8 b (o + 19216) (h .name)) (h .name)))) (lends-whole (named 6) (ν₆ ∷ []) u8 b (o + 19216) 𝓤 H A 480 W tt (lit< tt, lit< tt) (h .name)) $ await ! tt $ pick ! (λ δ₆. learn ! (λ e₆. split ! $
+          lft-new ! tt (λ ν₇. move ! (26 ∷ []) $ use1 W (later (some (OnLoan (named 7) (ν₇ ∷ []) u8 b (o + 19696) 𝓤 H A 30720 (mutably (named 7) (ν₇ ∷ []) u8 b (o + 19696) (h .text)) (h .text)))) (lends-whole (named 7) (ν₇ ∷ []) u8 b (o + 19696) 𝓤 H A 30720 W tt (lit< tt, lit< tt) (h .text)) $ await ! tt $ pick ! (λ δ₇. learn ! (λ e₇. split ! $
+          lft-new ! tt (λ ν₈. move ! (28 ∷ []) $ use1 W (later (some (OnLoan (named 8) (ν₈ ∷ []) u8 b (o + 50416) 𝓤 H A 51000 (mutably (named 8) (ν₈ ∷ []) u8 b (o + 50416) (h .answers)) (h .answers)))) (lends-whole (named 8) (ν₈ ∷ []) u8 b (o + 50416) 𝓤 H A 51000 W tt (lit< tt, lit< tt) (h .answers)) $ await ! tt $ pick ! (λ δ₈. learn ! (λ e₈. split ! $
+          lft-new ! tt (λ ν₉. move ! (30 ∷ []) $ use1 W (later (some (OnLoan (named 9) (ν₉ ∷ []) usize b (o + 101416) 𝓤 H A 3120 (mutably (named 9) (ν₉ ∷ []) usize b (o + 101416) (h .values)) (h .values)))) (lends-whole (named 9) (ν₉ ∷ []) usize b (o + 101416) 𝓤 H A 3120 W tt (lit< tt, lit< tt) (h .values)) $ await ! tt $ pick ! (λ δ₉. learn ! (λ e₉. split ! $
+          lft-new ! tt (λ ν₁₀. move ! (31 ∷ []) $ use1 W (later (some (OnLoan (named 10) (ν₁₀ ∷ []) usize b (o + 126376) 𝓤 H A 302 (mutably (named 10) (ν₁₀ ∷ []) usize b (o + 126376) (h .held)) (h .held)))) (lends-whole (named 10) (ν₁₀ ∷ []) usize b (o + 126376) 𝓤 H A 302 W tt (lit< tt, lit< tt) (h .held)) $ await ! tt $ pick ! (λ δ₁₀. learn ! (λ e₁₀. split ! $
           move ! (32 ∷ 29 ∷ 26 ∷ 23 ∷ 20 ∷ 17 ∷ 14 ∷ 11 ∷ 8 ∷ 5 ∷ 2 ∷ 41 ∷ 40 ∷ 38 ∷ 39 ∷ 30 ∷ 27 ∷ 24 ∷ 21 ∷ 18 ∷ 15 ∷ 12 ∷ 9 ∷ 6 ∷ 3 ∷ 0 ∷ 45 ∷ 44 ∷ 42 ∷ 114 ∷ []) $ cut (handed-over ν₀ δ₀ ν₁ δ₁ ν₂ δ₂ ν₃ δ₃ ν₄ δ₄ ν₅ δ₅ ν₆ δ₆ ν₇ δ₇ ν₈ δ₈ ν₉ δ₉ ν₁₀ δ₁₀) (raw (Callee .pre (at-call ν₀ δ₀ ν₁ δ₁ ν₂ δ₂ ν₃ δ₃ ν₄ δ₄ ν₅ δ₅ ν₆ δ₆ ν₇ δ₇ ν₈ δ₈ ν₉ δ₉ ν₁₀ δ₁₀)) ∷ []) _ (hands-over ν₀ δ₀ ν₁ δ₁ ν₂ δ₂ ν₃ δ₃ ν₄ δ₄ ν₅ δ₅ ν₆ δ₆ ν₇ δ₇ ν₈ δ₈ ν₉ δ₉ ν₁₀ δ₁₀) $
           calls-at ! fm Callee known (at-call ν₀ δ₀ ν₁ δ₁ ν₂ δ₂ ν₃ δ₃ ν₄ δ₄ ν₅ δ₅ ν₆ δ₆ ν₇ δ₇ ν₈ δ₈ ν₉ δ₉ ν₁₀ δ₁₀) (and-then ! (load ! (from ! (stop !)) (look ! 70 refl)) (and-then ! (load ! (from ! (stop !)) (look ! 66 refl)) (and-then ! (load ! (from ! (stop !)) (look ! 62 refl)) (and-then ! (load ! (from ! (stop !)) (look ! 58 refl)) (and-then ! (load ! (from ! (stop !)) (look ! 54 refl)) (and-then ! (load ! (from ! (stop !)) (look ! 50 refl)) (and-then ! (load ! (from ! (stop !)) (look ! 46 refl)) (and-then ! (load ! (from ! (stop !)) (look ! 42 refl)) (and-then ! (load ! (from ! (stop !)) (look ! 38 refl)) (and-then ! (load ! (from ! (stop !)) (look ! 34 refl)) (and-then ! (load ! (from ! (stop !)) (look ! 30 refl)) (and-then ! (load ! (from ! (stop !)) (look ! 26 refl)) (and-then ! (load ! (from ! (stop !)) (look ! 22 refl)) (and-then ! (load ! (from ! (stop !)) (look ! 18 refl)) (no-more !))))))))))))))) (λ u.
           use1 W (later (some (λ (r : Result .Denot). ((‵ (flft (ν₀ ∷ []) fullShare) ⊛ ‵ (flft (ν₁ ∷ []) fullShare) ⊛ ‵ (flft (ν₂ ∷ []) fullShare) ⊛ ‵ (flft (ν₃ ∷ []) fullShare) ⊛ ‵ (flft (ν₄ ∷ []) fullShare) ⊛ ‵ (flft (ν₅ ∷ []) fullShare) ⊛ ‵ (flft (ν₆ ∷ []) fullShare) ⊛ ‵ (flft (ν₇ ∷ []) fullShare) ⊛ ‵ (flft (ν₈ ∷ []) fullShare) ⊛ ‵ (flft (ν₉ ∷ []) fullShare) ⊛ ‵ (flft (ν₁₀ ∷ []) fullShare) ⊛ ‵ (flft κ₁ q₁) ⊛ ‵ (flft κ₂ q₂) ⊛ ‵ (flft κ₃ q₃) ⊛ ‵ ftrue) ⊛ ‵ (Result .own r (u ∷ []))) ⊛ raw (ensured 𝓤 H A callee.ended (callee.clauses 𝓤 H A at-mem run) (ν₀ ∷ [], (ν₁ ∷ [], (ν₂ ∷ [], (ν₃ ∷ [], (ν₄ ∷ [], (ν₅ ∷ [], (ν₆ ∷ [], (ν₇ ∷ [], (ν₈ ∷ [], (ν₉ ∷ [], (ν₁₀ ∷ [], (κ₁, (κ₂, (κ₃, tt)))))))))))))) (sent ν₀ δ₀ ν₁ δ₁ ν₂ δ₂ ν₃ δ₃ ν₄ δ₄ ν₅ δ₅ ν₆ δ₆ ν₇ δ₇ ν₈ δ₈ ν₉ δ₉ ν₁₀ δ₁₀) tt r)))) (id⊢ 𝓤 _) $ await ! tt $ pick ! (λ r. split ! $ split ! $ split ! $ move ! (1 ∷ []) $ split ! $ move ! (1 ∷ []) $ split ! $ move ! (1 ∷ []) $ split ! $ move ! (1 ∷ []) $ split ! $ move ! (1 ∷ []) $ split ! $ move ! (1 ∷ []) $ split ! $ move ! (1 ∷ []) $ split ! $ move ! (1 ∷ []) $ split ! $ move ! (1 ∷ []) $ split ! $ move ! (1 ∷ []) $ split ! $ move ! (1 ∷ []) $ split ! $ move ! (1 ∷ []) $ split ! $ move ! (1 ∷ []) $ split ! $
@@ -208,11 +208,11 @@ module _ {M : Type 1} (𝓤 : URA M) (H : Heap 𝓤) (A : Atoms 𝓤) (at-mem : 
           move ! (28 ∷ []) $ lft-end ! tt $ move ! (0 ∷ 15 ∷ 36 ∷ []) $ use3 W (later (‵ (partAt (Array usize 8) fullShare (zs .1 .1 .1 .0) b (o + 4288)))) (whole-again (named 3) (ν₃ ∷ []) usize b (o + 4288) 𝓤 H A 8 W δ₃ (h .lens) (zs .1 .1 .1 .0)) $ await ! tt $
           move ! (27 ∷ []) $ lft-end ! tt $ move ! (0 ∷ 15 ∷ 34 ∷ []) $ use3 W (later (‵ (partAt (Array usize 1856) fullShare (zs .1 .1 .1 .1 .0) b (o + 4352)))) (whole-again (named 4) (ν₄ ∷ []) usize b (o + 4352) 𝓤 H A 1856 W δ₄ (h .plans) (zs .1 .1 .1 .1 .0)) $ await ! tt $
           move ! (26 ∷ []) $ lft-end ! tt $ move ! (0 ∷ 15 ∷ 32 ∷ []) $ use3 W (later (‵ (partAt (Array usize 2) fullShare (zs .1 .1 .1 .1 .1 .0) b (o + 19200)))) (whole-again (named 5) (ν₅ ∷ []) usize b (o + 19200) 𝓤 H A 2 W δ₅ (h .filed) (zs .1 .1 .1 .1 .1 .0)) $ await ! tt $
-          move ! (25 ∷ []) $ lft-end ! tt $ move ! (0 ∷ 15 ∷ 30 ∷ []) $ use3 W (later (‵ (partAt (Array u8 16) fullShare (zs .1 .1 .1 .1 .1 .1 .0) b (o + 19216)))) (whole-again (named 6) (ν₆ ∷ []) u8 b (o + 19216) 𝓤 H A 16 W δ₆ (h .name) (zs .1 .1 .1 .1 .1 .1 .0)) $ await ! tt $
-          move ! (24 ∷ []) $ lft-end ! tt $ move ! (0 ∷ 15 ∷ 28 ∷ []) $ use3 W (later (‵ (partAt (Array u8 1024) fullShare (zs .1 .1 .1 .1 .1 .1 .1 .0) b (o + 19232)))) (whole-again (named 7) (ν₇ ∷ []) u8 b (o + 19232) 𝓤 H A 1024 W δ₇ (h .text) (zs .1 .1 .1 .1 .1 .1 .1 .0)) $ await ! tt $
-          move ! (23 ∷ []) $ lft-end ! tt $ move ! (0 ∷ 15 ∷ 26 ∷ []) $ use3 W (later (‵ (partAt (Array u8 1700) fullShare (zs .1 .1 .1 .1 .1 .1 .1 .1 .0) b (o + 20256)))) (whole-again (named 8) (ν₈ ∷ []) u8 b (o + 20256) 𝓤 H A 1700 W δ₈ (h .answers) (zs .1 .1 .1 .1 .1 .1 .1 .1 .0)) $ await ! tt $
-          move ! (22 ∷ []) $ lft-end ! tt $ move ! (0 ∷ 15 ∷ 24 ∷ []) $ use3 W (later (‵ (partAt (Array usize 104) fullShare (zs .1 .1 .1 .1 .1 .1 .1 .1 .1 .0) b (o + 21960)))) (whole-again (named 9) (ν₉ ∷ []) usize b (o + 21960) 𝓤 H A 104 W δ₉ (h .values) (zs .1 .1 .1 .1 .1 .1 .1 .1 .1 .0)) $ await ! tt $
-          move ! (21 ∷ []) $ lft-end ! tt $ move ! (0 ∷ 15 ∷ 22 ∷ []) $ use3 W (later (‵ (partAt (Array usize 10) fullShare (zs .1 .1 .1 .1 .1 .1 .1 .1 .1 .1 .0) b (o + 22792)))) (whole-again (named 10) (ν₁₀ ∷ []) usize b (o + 22792) 𝓤 H A 10 W δ₁₀ (h .held) (zs .1 .1 .1 .1 .1 .1 .1 .1 .1 .1 .0)) $ await ! tt $
+          move ! (25 ∷ []) $ lft-end ! tt $ move ! (0 ∷ 15 ∷ 30 ∷ []) $ use3 W (later (‵ (partAt (Array u8 480) fullShare (zs .1 .1 .1 .1 .1 .1 .0) b (o + 19216)))) (whole-again (named 6) (ν₆ ∷ []) u8 b (o + 19216) 𝓤 H A 480 W δ₆ (h .name) (zs .1 .1 .1 .1 .1 .1 .0)) $ await ! tt $
+          move ! (24 ∷ []) $ lft-end ! tt $ move ! (0 ∷ 15 ∷ 28 ∷ []) $ use3 W (later (‵ (partAt (Array u8 30720) fullShare (zs .1 .1 .1 .1 .1 .1 .1 .0) b (o + 19696)))) (whole-again (named 7) (ν₇ ∷ []) u8 b (o + 19696) 𝓤 H A 30720 W δ₇ (h .text) (zs .1 .1 .1 .1 .1 .1 .1 .0)) $ await ! tt $
+          move ! (23 ∷ []) $ lft-end ! tt $ move ! (0 ∷ 15 ∷ 26 ∷ []) $ use3 W (later (‵ (partAt (Array u8 51000) fullShare (zs .1 .1 .1 .1 .1 .1 .1 .1 .0) b (o + 50416)))) (whole-again (named 8) (ν₈ ∷ []) u8 b (o + 50416) 𝓤 H A 51000 W δ₈ (h .answers) (zs .1 .1 .1 .1 .1 .1 .1 .1 .0)) $ await ! tt $
+          move ! (22 ∷ []) $ lft-end ! tt $ move ! (0 ∷ 15 ∷ 24 ∷ []) $ use3 W (later (‵ (partAt (Array usize 3120) fullShare (zs .1 .1 .1 .1 .1 .1 .1 .1 .1 .0) b (o + 101416)))) (whole-again (named 9) (ν₉ ∷ []) usize b (o + 101416) 𝓤 H A 3120 W δ₉ (h .values) (zs .1 .1 .1 .1 .1 .1 .1 .1 .1 .0)) $ await ! tt $
+          move ! (21 ∷ []) $ lft-end ! tt $ move ! (0 ∷ 15 ∷ 22 ∷ []) $ use3 W (later (‵ (partAt (Array usize 302) fullShare (zs .1 .1 .1 .1 .1 .1 .1 .1 .1 .1 .0) b (o + 126376)))) (whole-again (named 10) (ν₁₀ ∷ []) usize b (o + 126376) 𝓤 H A 302 W δ₁₀ (h .held) (zs .1 .1 .1 .1 .1 .1 .1 .1 .1 .1 .0)) $ await ! tt $
           -- from the fields to the borrow
           nothing ! $ move ! (1 ∷ 0 ∷ []) $ fjoin ! $ move ! (1 ∷ 0 ∷ []) $ fjoin ! $ move ! (1 ∷ 0 ∷ []) $ fjoin ! $ move ! (1 ∷ 0 ∷ []) $ fjoin ! $ move ! (1 ∷ 0 ∷ []) $ fjoin ! $ move ! (1 ∷ 0 ∷ []) $ fjoin ! $ move ! (1 ∷ 0 ∷ []) $ fjoin ! $ move ! (1 ∷ 0 ∷ []) $ fjoin ! $ move ! (1 ∷ 0 ∷ []) $ fjoin ! $ move ! (1 ∷ 0 ∷ []) $ fjoin ! $ move ! (1 ∷ 0 ∷ []) $ fjoin ! $ move ! (0 ∷ 12 ∷ []) $ use2 W (‵ (partAt Self fullShare (left zs) b o)) (puts-together fullShare b o 𝓤 H A W (left zs)) $ move ! (0 ∷ 12 ∷ 13 ∷ 14 ∷ []) $ close-ref ! tt (mem Self) (left zs) {b = b} {o = o} $
           returns ! (look ! 81 refl) $ forget ! 81 refl $ forget ! 79 refl $ forget ! 77 refl $ forget ! 75 refl $ forget ! 73 refl $ forget ! 71 refl $ forget ! 69 refl $ forget ! 67 refl $ forget ! 65 refl $ forget ! 63 refl $ forget ! 61 refl $ forget ! 59 refl $ forget ! 57 refl $ forget ! 55 refl $ forget ! 53 refl $ forget ! 51 refl $ forget ! 49 refl $ forget ! 47 refl $ forget ! 45 refl $ forget ! 43 refl $ forget ! 41 refl $ forget ! 39 refl $ forget ! 37 refl $ forget ! 35 refl $ forget ! 33 refl $ forget ! 31 refl $ forget ! 29 refl $ forget ! 27 refl $ forget ! 25 refl $ forget ! 23 refl $ forget ! 21 refl $ forget ! 19 refl $ forget ! 17 refl $ forget ! 15 refl $

@@ -28,7 +28,7 @@ use denote.RattleType.{RattleType, owns}
 use denote.Memory.{mem, partAt, part-halves}
 use denote.Laws.{Is, Are, Ises, shows}
 use denote.Plain.{uint-vals, uint-tells, uint-lawful, uint-makes, nothing-makes}
-use denote.Builtin.{u8, usize}
+use denote.Builtin.{usize}
 use denote.Array.{Array}
 use denote.Ref.{RefT, MutRef, ShrRef, ptr-vals, mut-tells, shr-tells, shr-copy}
 use denote.Slice.{sliceVal, MutSlice, ShrSlice, finally, slice-vals, mut-slice-tells, shr-slice-tells, mut-slice-lawful, shr-slice-lawful, shr-slice-copy}
@@ -49,11 +49,12 @@ use borrow.Table.OneValue.{part-out, part-in}
 use Rattle.bench.specs.declared.Bench.{Bench as Record}
 use Rattle.bench.proofs.Bench as T
 use Rattle.bench.proofs.Bench.Laws as T′
+use Rattle.bench.proofs.Counting.{counts as needs-law}
 use Rattle.bench.proofs.Lending.{large, mutably, shared, OnLoan, lends-whole, lends-share, whole-again, share-again}
 use Rattle.bench.proofs.Apart.{Fields, Rest, takes-apart, puts-together}
-use Rattle.call.proofs.sets_left as callee
-use Rattle.call.proofs.sets_left.Symbol as callee-def
-use Rattle.call.proofs.sets_left.Met as callee-thm
+use Rattle.tablets.proofs.counts.sets_left as callee
+use Rattle.tablets.proofs.counts.sets_left.Symbol as callee-def
+use Rattle.tablets.proofs.counts.sets_left.Met as callee-thm
 use Rattle.bench.proofs.Bench.sets_left as this
 use Rattle.bench.proofs.Bench.sets_left.Key as key
 use Rattle.bench.proofs.Bench.sets_left.Statement as to-show
@@ -67,7 +68,7 @@ Result = usize
 
 -- how each parameter ends
 abbrev endings : Stays (this.ended .signature .params) (this.ended .kept)
-endings = (stay-none-ref (0 ∷ []) tt (plain (λ _. Self)) yes, tt)
+endings = (stay-none-ref (0 ∷ []) tt (plain (λ _. Self)) yes, (stay-none (λ _. usize) yes, tt))
 
 module _ {M : Type 1} (𝓤 : URA M) (H : Heap 𝓤) (A : Atoms 𝓤) (at-mem : Memory → SProp 𝓤) (run : Routine → Fun 𝓤) where
   abbrev Callee : Contract 𝓤
@@ -76,7 +77,7 @@ module _ {M : Type 1} (𝓤 : URA M) (H : Heap 𝓤) (A : Atoms 𝓤) (at-mem : 
   abbrev Cited : Calls 𝓤 H → Type 1
   Cited C = Triple 𝓤 (C callee-def.name) Callee
 
-  module _ (W : Given 𝓤 H A) (κ₀ : Lft) (q₀ : Share) (b o : ℕ) (γ : GName) (h : Record) where
+  module _ (W : Given 𝓤 H A) (κ₀ : Lft) (q₀ : Share) (b o : ℕ) (γ : GName) (h : Record) (s₁ : ℕ) where
     -- of each parameter its machine value, and what it owns
     abbrev s₀ : RefT Record
     s₀ = record { ptr = (b, o); name = γ; now = h }
@@ -87,129 +88,101 @@ module _ {M : Type 1} (𝓤 : URA M) (H : Heap 𝓤) (A : Atoms 𝓤) (at-mem : 
     abbrev Own₀ : Fml
     Own₀ = ShrRef (named 0) κ₀ Self .own s₀ (v₀ ∷ [])
 
-    abbrev args : RefT Record × (Unit {0})
-    args = (s₀, tt)
+    abbrev v₁ : Val
+    v₁ = vint w64 s₁
 
-    abbrev machine : List Val × (Unit {0})
-    machine = (v₀ ∷ [], tt)
+    abbrev Own₁ : Fml
+    Own₁ = usize .own s₁ (v₁ ∷ [])
+
+    abbrev args : RefT Record × (ℕ × (Unit {0}))
+    args = (s₀, (s₁, tt))
+
+    abbrev machine : List Val × (List Val × (Unit {0}))
+    machine = (v₀ ∷ [], (v₁ ∷ [], tt))
 
     abbrev Required : SProp 𝓤
     Required = this.clauses 𝓤 H A at-mem run (κ₀, tt) args .requires tt
 
     abbrev Ensured : Result .Denot → SProp 𝓤
-    Ensured r = this.clauses 𝓤 H A at-mem run (κ₀, tt) args .ensures tt r (atExit this.ended (κ₀, tt) args (tt, tt))
+    Ensured r = this.clauses 𝓤 H A at-mem run (κ₀, tt) args .ensures tt r (atExit this.ended (κ₀, tt) args (tt, (tt, tt)))
 
     abbrev Promise : Val → SProp 𝓤
     Promise = walkOf 𝓤 H A this.ended endings (this.clauses 𝓤 H A at-mem run) .post (((κ₀, tt), (q₀, tt), tt, args, machine), tt)
 
     -- the call: its arguments, what it asks, and the last values that it leaves
-    abbrev sent : ℕ → GName → ℕ → GName → ℕ → GName → ℕ → GName → ℕ → GName → ℕ → GName → ℕ → GName → ℕ → GName → ℕ → GName → ℕ → GName → ℕ → GName → RefT (List ℕ) × (RefT (List ℕ) × (RefT (List ℕ) × (RefT (List ℕ) × (RefT (List ℕ) × (RefT (List ℕ) × (RefT (List ℕ) × (RefT (List ℕ) × (RefT (List ℕ) × (RefT (List ℕ) × (RefT (List ℕ) × (Unit {0})))))))))))
-    sent ν₀ δ₀ ν₁ δ₁ ν₂ δ₂ ν₃ δ₃ ν₄ δ₄ ν₅ δ₅ ν₆ δ₆ ν₇ δ₇ ν₈ δ₈ ν₉ δ₉ ν₁₀ δ₁₀ = (record { ptr = (b, o + 0); name = δ₀; now = h .forms }, (record { ptr = (b, o + 4096); name = δ₁; now = h .names }, (record { ptr = (b, o + 4224); name = δ₂; now = h .texts }, (record { ptr = (b, o + 4288); name = δ₃; now = h .lens }, (record { ptr = (b, o + 4352); name = δ₄; now = h .plans }, (record { ptr = (b, o + 19200); name = δ₅; now = h .filed }, (record { ptr = (b, o + 19216); name = δ₆; now = h .name }, (record { ptr = (b, o + 19232); name = δ₇; now = h .text }, (record { ptr = (b, o + 20256); name = δ₈; now = h .answers }, (record { ptr = (b, o + 21960); name = δ₉; now = h .values }, (record { ptr = (b, o + 22792); name = δ₁₀; now = h .held }, tt)))))))))))
+    abbrev sent : ℕ → GName → RefT (List ℕ) × (ℕ × (Unit {0}))
+    sent ν₁₀ δ₁₀ = (record { ptr = (b, o + 126376); name = δ₁₀; now = h .held }, (s₁, tt))
 
-    abbrev at-call : ℕ → GName → ℕ → GName → ℕ → GName → ℕ → GName → ℕ → GName → ℕ → GName → ℕ → GName → ℕ → GName → ℕ → GName → ℕ → GName → ℕ → GName → Callee .Ghost
-    at-call ν₀ δ₀ ν₁ δ₁ ν₂ δ₂ ν₃ δ₃ ν₄ δ₄ ν₅ δ₅ ν₆ δ₆ ν₇ δ₇ ν₈ δ₈ ν₉ δ₉ ν₁₀ δ₁₀ = (((ν₀ ∷ [], (ν₁ ∷ [], (ν₂ ∷ [], (ν₃ ∷ [], (ν₄ ∷ [], (ν₅ ∷ [], (ν₆ ∷ [], (ν₇ ∷ [], (ν₈ ∷ [], (ν₉ ∷ [], (ν₁₀ ∷ [], tt))))))))))), (fullShare, (fullShare, (fullShare, (fullShare, (fullShare, (fullShare, (fullShare, (fullShare, (fullShare, (fullShare, (fullShare, tt))))))))))), tt, sent ν₀ δ₀ ν₁ δ₁ ν₂ δ₂ ν₃ δ₃ ν₄ δ₄ ν₅ δ₅ ν₆ δ₆ ν₇ δ₇ ν₈ δ₈ ν₉ δ₉ ν₁₀ δ₁₀, (sliceVal (b, o + 0) 4096 ∷ [], (sliceVal (b, o + 4096) 128 ∷ [], (sliceVal (b, o + 4224) 8 ∷ [], (sliceVal (b, o + 4288) 8 ∷ [], (sliceVal (b, o + 4352) 1856 ∷ [], (sliceVal (b, o + 19200) 2 ∷ [], (sliceVal (b, o + 19216) 16 ∷ [], (sliceVal (b, o + 19232) 1024 ∷ [], (sliceVal (b, o + 20256) 1700 ∷ [], (sliceVal (b, o + 21960) 104 ∷ [], (sliceVal (b, o + 22792) 10 ∷ [], tt)))))))))))), tt)
+    abbrev at-call : ℕ → GName → Callee .Ghost
+    at-call ν₁₀ δ₁₀ = (((ν₁₀ ∷ [], tt), (fullShare, tt), tt, sent ν₁₀ δ₁₀, (sliceVal (b, o + 126376) 302 ∷ [], (v₁ ∷ [], tt))), tt)
 
-    abbrev Asked : ℕ → GName → ℕ → GName → ℕ → GName → ℕ → GName → ℕ → GName → ℕ → GName → ℕ → GName → ℕ → GName → ℕ → GName → ℕ → GName → ℕ → GName → SProp 𝓤
-    Asked ν₀ δ₀ ν₁ δ₁ ν₂ δ₂ ν₃ δ₃ ν₄ δ₄ ν₅ δ₅ ν₆ δ₆ ν₇ δ₇ ν₈ δ₈ ν₉ δ₉ ν₁₀ δ₁₀ = callee.clauses 𝓤 H A at-mem run (ν₀ ∷ [], (ν₁ ∷ [], (ν₂ ∷ [], (ν₃ ∷ [], (ν₄ ∷ [], (ν₅ ∷ [], (ν₆ ∷ [], (ν₇ ∷ [], (ν₈ ∷ [], (ν₉ ∷ [], (ν₁₀ ∷ [], tt))))))))))) (sent ν₀ δ₀ ν₁ δ₁ ν₂ δ₂ ν₃ δ₃ ν₄ δ₄ ν₅ δ₅ ν₆ δ₆ ν₇ δ₇ ν₈ δ₈ ν₉ δ₉ ν₁₀ δ₁₀) .requires tt
+    abbrev Asked : ℕ → GName → SProp 𝓤
+    Asked ν₁₀ δ₁₀ = callee.clauses 𝓤 H A at-mem run (ν₁₀ ∷ [], tt) (sent ν₁₀ δ₁₀) .requires tt
 
     abbrev Lasts : Type 0
-    Lasts = Unit {0} × (Unit {0} × (Unit {0} × (Unit {0} × (Unit {0} × (Unit {0} × (Unit {0} × (Unit {0} × (Unit {0} × (Unit {0} × (Unit {0} × (Unit {0})))))))))))
+    Lasts = Unit {0} × (Unit {0} × (Unit {0}))
 
     -- the record that is left
     abbrev left : Lasts → Record
     left zs = record { forms = h .forms; names = h .names; texts = h .texts; lens = h .lens; plans = h .plans; filed = h .filed; name = h .name; text = h .text; answers = h .answers; values = h .values; held = h .held }
 
-    -- the callee asks what this function asks
-    asks-same : (ν₀ : ℕ) (δ₀ : GName) (ν₁ : ℕ) (δ₁ : GName) (ν₂ : ℕ) (δ₂ : GName) (ν₃ : ℕ) (δ₃ : GName) (ν₄ : ℕ) (δ₄ : GName) (ν₅ : ℕ) (δ₅ : GName) (ν₆ : ℕ) (δ₆ : GName) (ν₇ : ℕ) (δ₇ : GName) (ν₈ : ℕ) (δ₈ : GName) (ν₉ : ℕ) (δ₉ : GName) (ν₁₀ : ℕ) (δ₁₀ : GName) → Required ≡ Asked ν₀ δ₀ ν₁ δ₁ ν₂ δ₂ ν₃ δ₃ ν₄ δ₄ ν₅ δ₅ ν₆ δ₆ ν₇ δ₇ ν₈ δ₈ ν₉ δ₉ ν₁₀ δ₁₀
-    asks-same ν₀ δ₀ ν₁ δ₁ ν₂ δ₂ ν₃ δ₃ ν₄ δ₄ ν₅ δ₅ ν₆ δ₆ ν₇ δ₇ ν₈ δ₈ ν₉ δ₉ ν₁₀ δ₁₀ = refl
-
     -- the callee ensures what this function ensures
-    says-same : (ν₀ : ℕ) (δ₀ : GName) (ν₁ : ℕ) (δ₁ : GName) (ν₂ : ℕ) (δ₂ : GName) (ν₃ : ℕ) (δ₃ : GName) (ν₄ : ℕ) (δ₄ : GName) (ν₅ : ℕ) (δ₅ : GName) (ν₆ : ℕ) (δ₆ : GName) (ν₇ : ℕ) (δ₇ : GName) (ν₈ : ℕ) (δ₈ : GName) (ν₉ : ℕ) (δ₉ : GName) (ν₁₀ : ℕ) (δ₁₀ : GName) (r : Result .Denot) (zs : Lasts) → callee.clauses 𝓤 H A at-mem run (ν₀ ∷ [], (ν₁ ∷ [], (ν₂ ∷ [], (ν₃ ∷ [], (ν₄ ∷ [], (ν₅ ∷ [], (ν₆ ∷ [], (ν₇ ∷ [], (ν₈ ∷ [], (ν₉ ∷ [], (ν₁₀ ∷ [], tt))))))))))) (sent ν₀ δ₀ ν₁ δ₁ ν₂ δ₂ ν₃ δ₃ ν₄ δ₄ ν₅ δ₅ ν₆ δ₆ ν₇ δ₇ ν₈ δ₈ ν₉ δ₉ ν₁₀ δ₁₀) .ensures tt r (atExit callee.ended (ν₀ ∷ [], (ν₁ ∷ [], (ν₂ ∷ [], (ν₃ ∷ [], (ν₄ ∷ [], (ν₅ ∷ [], (ν₆ ∷ [], (ν₇ ∷ [], (ν₈ ∷ [], (ν₉ ∷ [], (ν₁₀ ∷ [], tt))))))))))) (sent ν₀ δ₀ ν₁ δ₁ ν₂ δ₂ ν₃ δ₃ ν₄ δ₄ ν₅ δ₅ ν₆ δ₆ ν₇ δ₇ ν₈ δ₈ ν₉ δ₉ ν₁₀ δ₁₀) zs) ≡ Ensured r
-    says-same ν₀ δ₀ ν₁ δ₁ ν₂ δ₂ ν₃ δ₃ ν₄ δ₄ ν₅ δ₅ ν₆ δ₆ ν₇ δ₇ ν₈ δ₈ ν₉ δ₉ ν₁₀ δ₁₀ r zs = refl
+    says-same : (ν₁₀ : ℕ) (δ₁₀ : GName) (r : Result .Denot) (zs : Lasts) → callee.clauses 𝓤 H A at-mem run (ν₁₀ ∷ [], tt) (sent ν₁₀ δ₁₀) .ensures tt r (atExit callee.ended (ν₁₀ ∷ [], tt) (sent ν₁₀ δ₁₀) zs) ≡ Ensured r
+    says-same ν₁₀ δ₁₀ r zs = refl
 
-    abbrev handed-over : ℕ → GName → ℕ → GName → ℕ → GName → ℕ → GName → ℕ → GName → ℕ → GName → ℕ → GName → ℕ → GName → ℕ → GName → ℕ → GName → ℕ → GName → List (Item 𝓤)
-    handed-over ν₀ δ₀ ν₁ δ₁ ν₂ δ₂ ν₃ δ₃ ν₄ δ₄ ν₅ δ₅ ν₆ δ₆ ν₇ δ₇ ν₈ δ₈ ν₉ δ₉ ν₁₀ δ₁₀ = (‵ (flft (ν₀ ∷ []) fullShare) ∷ ‵ (flft (ν₁ ∷ []) fullShare) ∷ ‵ (flft (ν₂ ∷ []) fullShare) ∷ ‵ (flft (ν₃ ∷ []) fullShare) ∷ ‵ (flft (ν₄ ∷ []) fullShare) ∷ ‵ (flft (ν₅ ∷ []) fullShare) ∷ ‵ (flft (ν₆ ∷ []) fullShare) ∷ ‵ (flft (ν₇ ∷ []) fullShare) ∷ ‵ (flft (ν₈ ∷ []) fullShare) ∷ ‵ (flft (ν₉ ∷ []) fullShare) ∷ ‵ (flft (ν₁₀ ∷ []) fullShare) ∷ ‵ ftrue ∷ ‵ ((shared (named 0) (ν₀ ∷ []) u8 b (o + 0) (h .forms) fullShare) .borrower 4096 δ₀) ∷ ‵ ((shared (named 1) (ν₁ ∷ []) u8 b (o + 4096) (h .names) fullShare) .borrower 128 δ₁) ∷ ‵ ((shared (named 2) (ν₂ ∷ []) usize b (o + 4224) (h .texts) fullShare) .borrower 8 δ₂) ∷ ‵ ((shared (named 3) (ν₃ ∷ []) usize b (o + 4288) (h .lens) fullShare) .borrower 8 δ₃) ∷ ‵ ((shared (named 4) (ν₄ ∷ []) usize b (o + 4352) (h .plans) fullShare) .borrower 1856 δ₄) ∷ ‵ ((shared (named 5) (ν₅ ∷ []) usize b (o + 19200) (h .filed) fullShare) .borrower 2 δ₅) ∷ ‵ ((shared (named 6) (ν₆ ∷ []) u8 b (o + 19216) (h .name) fullShare) .borrower 16 δ₆) ∷ ‵ ((shared (named 7) (ν₇ ∷ []) u8 b (o + 19232) (h .text) fullShare) .borrower 1024 δ₇) ∷ ‵ ((shared (named 8) (ν₈ ∷ []) u8 b (o + 20256) (h .answers) fullShare) .borrower 1700 δ₈) ∷ ‵ ((shared (named 9) (ν₉ ∷ []) usize b (o + 21960) (h .values) fullShare) .borrower 104 δ₉) ∷ ‵ ((shared (named 10) (ν₁₀ ∷ []) usize b (o + 22792) (h .held) fullShare) .borrower 10 δ₁₀) ∷ raw (Asked ν₀ δ₀ ν₁ δ₁ ν₂ δ₂ ν₃ δ₃ ν₄ δ₄ ν₅ δ₅ ν₆ δ₆ ν₇ δ₇ ν₈ δ₈ ν₉ δ₉ ν₁₀ δ₁₀) ∷ [])
+    abbrev handed-over : ℕ → GName → List (Item 𝓤)
+    handed-over ν₁₀ δ₁₀ = (‵ (flft (ν₁₀ ∷ []) fullShare) ∷ ‵ ftrue ∷ ‵ ((shared (named 0) (ν₁₀ ∷ []) usize b (o + 126376) (h .held) fullShare) .borrower 302 δ₁₀) ∷ ‵ (Own₁) ∷ raw (Asked ν₁₀ δ₁₀) ∷ [])
 
-    hands-over : (ν₀ : ℕ) (δ₀ : GName) (ν₁ : ℕ) (δ₁ : GName) (ν₂ : ℕ) (δ₂ : GName) (ν₃ : ℕ) (δ₃ : GName) (ν₄ : ℕ) (δ₄ : GName) (ν₅ : ℕ) (δ₅ : GName) (ν₆ : ℕ) (δ₆ : GName) (ν₇ : ℕ) (δ₇ : GName) (ν₈ : ℕ) (δ₈ : GName) (ν₉ : ℕ) (δ₉ : GName) (ν₁₀ : ℕ) (δ₁₀ : GName) → ent 𝓤 (⋆ 𝓤 H A (handed-over ν₀ δ₀ ν₁ δ₁ ν₂ δ₂ ν₃ δ₃ ν₄ δ₄ ν₅ δ₅ ν₆ δ₆ ν₇ δ₇ ν₈ δ₈ ν₉ δ₉ ν₁₀ δ₁₀)) (Callee .pre (at-call ν₀ δ₀ ν₁ δ₁ ν₂ δ₂ ν₃ δ₃ ν₄ δ₄ ν₅ δ₅ ν₆ δ₆ ν₇ δ₇ ν₈ δ₈ ν₉ δ₉ ν₁₀ δ₁₀))
-    hands-over ν₀ δ₀ ν₁ δ₁ ν₂ δ₂ ν₃ δ₃ ν₄ δ₄ ν₅ δ₅ ν₆ δ₆ ν₇ δ₇ ν₈ δ₈ ν₉ δ₉ ν₁₀ δ₁₀ =
-        qed W (handed-over ν₀ δ₀ ν₁ δ₁ ν₂ δ₂ ν₃ δ₃ ν₄ δ₄ ν₅ δ₅ ν₆ δ₆ ν₇ δ₇ ν₈ δ₈ ν₉ δ₉ ν₁₀ δ₁₀) ∵
-        move ! (10 ∷ 11 ∷ []) $ join ! $ move ! (10 ∷ 0 ∷ []) $ join ! $ move ! (9 ∷ 0 ∷ []) $ join ! $ move ! (8 ∷ 0 ∷ []) $ join ! $ move ! (7 ∷ 0 ∷ []) $ join ! $ move ! (6 ∷ 0 ∷ []) $ join ! $ move ! (5 ∷ 0 ∷ []) $ join ! $ move ! (4 ∷ 0 ∷ []) $ join ! $ move ! (3 ∷ 0 ∷ []) $ join ! $ move ! (2 ∷ 0 ∷ []) $ join ! $ move ! (1 ∷ 0 ∷ []) $ join ! $ nothing ! $ move ! (12 ∷ 0 ∷ []) $ fjoin ! $ move ! (11 ∷ 0 ∷ []) $ fjoin ! $ move ! (10 ∷ 0 ∷ []) $ fjoin ! $ move ! (9 ∷ 0 ∷ []) $ fjoin ! $ move ! (8 ∷ 0 ∷ []) $ fjoin ! $ move ! (7 ∷ 0 ∷ []) $ fjoin ! $ move ! (6 ∷ 0 ∷ []) $ fjoin ! $ move ! (5 ∷ 0 ∷ []) $ fjoin ! $ move ! (4 ∷ 0 ∷ []) $ fjoin ! $ move ! (3 ∷ 0 ∷ []) $ fjoin ! $ move ! (2 ∷ 0 ∷ []) $ fjoin ! $ move ! (1 ∷ 0 ∷ []) $ join ! $ done !
+    hands-over : (ν₁₀ : ℕ) (δ₁₀ : GName) → ent 𝓤 (⋆ 𝓤 H A (handed-over ν₁₀ δ₁₀)) (Callee .pre (at-call ν₁₀ δ₁₀))
+    hands-over ν₁₀ δ₁₀ =
+        qed W (handed-over ν₁₀ δ₁₀) ∵
+        join ! $ nothing ! $ move ! (3 ∷ 0 ∷ []) $ fjoin ! $ move ! (2 ∷ 0 ∷ []) $ fjoin ! $ move ! (1 ∷ 0 ∷ []) $ join ! $ done !
 
-    gives-back : (r : Result .Denot) (u : Val) → ent 𝓤 (⋆ 𝓤 H A (‵ (flft κ₀ q₀) ∷ ‵ ftrue ∷ ‵ Own₀ ∷ ‵ (Result .own r (u ∷ [])) ∷ raw (Ensured r) ∷ [])) (Promise u)
+    gives-back : (r : Result .Denot) (u : Val) → ent 𝓤 (⋆ 𝓤 H A (‵ (flft κ₀ q₀) ∷ ‵ ftrue ∷ ‵ Own₀ ∷ ‵ Own₁ ∷ ‵ (Result .own r (u ∷ [])) ∷ raw (Ensured r) ∷ [])) (Promise u)
     gives-back r u =
-        qed W (‵ (flft κ₀ q₀) ∷ ‵ ftrue ∷ ‵ Own₀ ∷ ‵ (Result .own r (u ∷ [])) ∷ raw (Ensured r) ∷ []) ∵
-        suffices ! _ (ends-at 𝓤 H A this.ended endings (this.clauses 𝓤 H A at-mem run) W (((κ₀, tt), (q₀, tt), tt, args, machine), tt) u r (tt, tt) (tt, tt)) $ join ! $ nothing ! $ move ! (2 ∷ 0 ∷ []) $ fjoin ! $ move ! (0 ∷ 2 ∷ []) $ join ! $ move ! (1 ∷ 0 ∷ []) $ join ! $ done !
+        qed W (‵ (flft κ₀ q₀) ∷ ‵ ftrue ∷ ‵ Own₀ ∷ ‵ Own₁ ∷ ‵ (Result .own r (u ∷ [])) ∷ raw (Ensured r) ∷ []) ∵
+        suffices ! _ (ends-at 𝓤 H A this.ended endings (this.clauses 𝓤 H A at-mem run) W (((κ₀, tt), (q₀, tt), tt, args, machine), tt) u r (tt, (tt, tt)) (tt, (tt, tt))) $ join ! $ nothing ! $ move ! (3 ∷ 0 ∷ []) $ fjoin ! $ move ! (2 ∷ 0 ∷ []) $ fjoin ! $ move ! (0 ∷ 2 ∷ []) $ join ! $ move ! (1 ∷ 0 ∷ []) $ join ! $ done !
 
     module _ (C : Calls 𝓤 H) (Λ : Loops 𝓤 H) (fm : FmC 𝓤 H (W .laws) C) (known : Cited C) where
-      walk : Are (ShrRef (named 0) κ₀ Self ∷ []) (Ises (ShrRef (named 0) κ₀ Self ∷ [])) args machine → ent 𝓤 (sep 𝓤 (onEntry 𝓤 H A this.signature (κ₀, tt) (q₀, tt) args machine) Required) (WpFn 𝓤 H C Λ code.function (v₀ ∷ []) Promise)
+      walk : Are (ShrRef (named 0) κ₀ Self ∷ usize ∷ []) (Ises (ShrRef (named 0) κ₀ Self ∷ usize ∷ [])) args machine → ent 𝓤 (sep 𝓤 (onEntry 𝓤 H A this.signature (κ₀, tt) (q₀, tt) args machine) Required) (WpFn 𝓤 H C Λ code.function (v₀ ∷ v₁ ∷ []) Promise)
       walk are =
-          qed W (((‵ (flft κ₀ q₀) ⊛ ‵ ftrue) ⊛ ‵ (owns (ShrRef (named 0) κ₀ Self ∷ []) args machine)) ∷ raw Required ∷ []) ∵
-          split ! $ enter ! C Λ code.function (v₀ ∷ []) _ $ alloc1 ! (λ l₀. alloc1 ! (λ l₁. alloc1 ! (λ l₂. alloc1 ! (λ l₃. alloc1 ! (λ l₄. alloc1 ! (λ l₅. alloc1 ! (λ l₆. alloc1 ! (λ l₇. alloc1 ! (λ l₈. alloc1 ! (λ l₉. alloc1 ! (λ l₁₀. alloc1 ! (λ l₁₁. alloc1 ! (λ l₁₂. alloc1 ! (λ l₁₃. alloc1 ! (λ l₁₄. alloc1 ! (λ l₁₅. alloc1 ! (λ l₁₆. alloc1 ! (λ l₁₇. alloc1 ! (λ l₁₈. alloc1 ! (λ l₁₉. alloc1 ! (λ l₂₀. alloc1 ! (λ l₂₁. alloc1 ! (λ l₂₂. alloc1 ! (λ l₂₃. alloc0 ! $ params1 ! $
-          pass1 ! (init ! 44 refl (tt, tt)) $ pass0 ! $
+          qed W (((‵ (flft κ₀ q₀) ⊛ ‵ ftrue) ⊛ ‵ (owns (ShrRef (named 0) κ₀ Self ∷ usize ∷ []) args machine)) ∷ raw Required ∷ []) ∵
+          split ! $ enter ! C Λ code.function (v₀ ∷ v₁ ∷ []) _ $ alloc1 ! (λ l₀. alloc1 ! (λ l₁. alloc1 ! (λ l₂. alloc1 ! (λ l₃. alloc1 ! (λ l₄. alloc0 ! $ params1 ! $
+          pass1 ! (init ! 6 refl (tt, tt)) $ pass1 ! (init ! 4 refl (uint-lawful 𝓤 H A W w64 .typed s₁ (v₁ ∷ []) (are .1 .0) .0)) $ pass0 ! $
           -- what came in, each by itself; of what can be copied one copy is kept
-          move ! (49 ∷ []) $ fsplit ! $ use1 W (‵ Own₀ ⊛ ‵ Own₀) (shr-copy 𝓤 H A W (named 0) κ₀ Self .twice s₀ (v₀ ∷ [])) $ split ! $ move ! (51 ∷ []) $ split ! $
+          move ! (11 ∷ []) $ fsplit ! $ move ! (1 ∷ []) $ fsplit ! $ move ! (2 ∷ []) $ use1 W (‵ Own₀ ⊛ ‵ Own₀) (shr-copy 𝓤 H A W (named 0) κ₀ Self .twice s₀ (v₀ ∷ [])) $ split ! $ owned ! usize (Is usize) (uint-makes 𝓤 H A W w64) s₁ (v₁ ∷ []) (are .1 .0) $ move ! (15 ∷ []) $ split ! $
           -- from the borrow to the fields
-          move ! (2 ∷ []) $ fsplit3 ! $ drop ! $ move ! (1 ∷ 2 ∷ []) $ shr-bor-open ! tt (part-halves 𝓤 H A W Self (Is Self) (shows 𝓤 H A Self) (LL.vals T.the-type T′.the-laws) (LL.tells T.the-type T′.the-laws) (LL.copy T.the-type T′.the-copy 𝓤 H A W) h b o) (λ q′. move ! (1 ∷ []) $ use1 W (‵ (Fields q′ b o h) ⊛ raw (Rest q′ b o 𝓤 H A)) (takes-apart q′ b o 𝓤 H A W h) $ split ! $ fsplit ! $ move ! (1 ∷ []) $ fsplit ! $ move ! (1 ∷ []) $ fsplit ! $ move ! (1 ∷ []) $ fsplit ! $ move ! (1 ∷ []) $ fsplit ! $ move ! (1 ∷ []) $ fsplit ! $ move ! (1 ∷ []) $ fsplit ! $ move ! (1 ∷ []) $ fsplit ! $ move ! (1 ∷ []) $ fsplit ! $ move ! (1 ∷ []) $ fsplit ! $ move ! (1 ∷ []) $ fsplit ! $
+          move ! (3 ∷ []) $ fsplit3 ! $ drop ! $ move ! (1 ∷ 2 ∷ []) $ shr-bor-open ! tt (part-halves 𝓤 H A W Self (Is Self) (shows 𝓤 H A Self) (LL.vals T.the-type T′.the-laws) (LL.tells T.the-type T′.the-laws) (LL.copy T.the-type T′.the-copy 𝓤 H A W) h b o) (λ q′. move ! (1 ∷ []) $ use1 W (‵ (Fields q′ b o h) ⊛ raw (Rest q′ b o 𝓤 H A)) (takes-apart q′ b o 𝓤 H A W h) $ split ! $ fsplit ! $ move ! (1 ∷ []) $ fsplit ! $ move ! (1 ∷ []) $ fsplit ! $ move ! (1 ∷ []) $ fsplit ! $ move ! (1 ∷ []) $ fsplit ! $ move ! (1 ∷ []) $ fsplit ! $ move ! (1 ∷ []) $ fsplit ! $ move ! (1 ∷ []) $ fsplit ! $ move ! (1 ∷ []) $ fsplit ! $ move ! (1 ∷ []) $ fsplit ! $ move ! (1 ∷ []) $ fsplit ! $
           -- the slices are made
-          assigns ! (addr ! (from ! (hop ! (look ! 62 refl) (fld ! refl (stop !))))) (from ! (stop !)) (init ! 60 refl (tt, tt)) $ assigns ! (agg ! (and-then ! (load ! (from ! (stop !)) (look ! 60 refl)) (and-then ! (large ! record { fits = lit< tt }) (no-more !)))) (from ! (stop !)) (init ! 58 refl (tt, (tt, (record { fits = lit< tt }, tt)))) $
-          assigns ! (addr ! (from ! (hop ! (look ! 62 refl) (fld ! refl (stop !))))) (from ! (stop !)) (init ! 56 refl (tt, tt)) $ assigns ! (agg ! (and-then ! (load ! (from ! (stop !)) (look ! 56 refl)) (and-then ! (lit ! tt) (no-more !)))) (from ! (stop !)) (init ! 54 refl (tt, (tt, (record { fits = lit< tt }, tt)))) $
-          assigns ! (addr ! (from ! (hop ! (look ! 62 refl) (fld ! refl (stop !))))) (from ! (stop !)) (init ! 52 refl (tt, tt)) $ assigns ! (agg ! (and-then ! (load ! (from ! (stop !)) (look ! 52 refl)) (and-then ! (lit ! tt) (no-more !)))) (from ! (stop !)) (init ! 50 refl (tt, (tt, (record { fits = lit< tt }, tt)))) $
-          assigns ! (addr ! (from ! (hop ! (look ! 62 refl) (fld ! refl (stop !))))) (from ! (stop !)) (init ! 48 refl (tt, tt)) $ assigns ! (agg ! (and-then ! (load ! (from ! (stop !)) (look ! 48 refl)) (and-then ! (lit ! tt) (no-more !)))) (from ! (stop !)) (init ! 46 refl (tt, (tt, (record { fits = lit< tt }, tt)))) $
-          assigns ! (addr ! (from ! (hop ! (look ! 62 refl) (fld ! refl (stop !))))) (from ! (stop !)) (init ! 44 refl (tt, tt)) $ assigns ! (agg ! (and-then ! (load ! (from ! (stop !)) (look ! 44 refl)) (and-then ! (large ! record { fits = lit< tt }) (no-more !)))) (from ! (stop !)) (init ! 42 refl (tt, (tt, (record { fits = lit< tt }, tt)))) $
-          assigns ! (addr ! (from ! (hop ! (look ! 62 refl) (fld ! refl (stop !))))) (from ! (stop !)) (init ! 40 refl (tt, tt)) $ assigns ! (agg ! (and-then ! (load ! (from ! (stop !)) (look ! 40 refl)) (and-then ! (lit ! tt) (no-more !)))) (from ! (stop !)) (init ! 38 refl (tt, (tt, (record { fits = lit< tt }, tt)))) $
-          assigns ! (addr ! (from ! (hop ! (look ! 62 refl) (fld ! refl (stop !))))) (from ! (stop !)) (init ! 36 refl (tt, tt)) $ assigns ! (agg ! (and-then ! (load ! (from ! (stop !)) (look ! 36 refl)) (and-then ! (lit ! tt) (no-more !)))) (from ! (stop !)) (init ! 34 refl (tt, (tt, (record { fits = lit< tt }, tt)))) $
-          assigns ! (addr ! (from ! (hop ! (look ! 62 refl) (fld ! refl (stop !))))) (from ! (stop !)) (init ! 32 refl (tt, tt)) $ assigns ! (agg ! (and-then ! (load ! (from ! (stop !)) (look ! 32 refl)) (and-then ! (large ! record { fits = lit< tt }) (no-more !)))) (from ! (stop !)) (init ! 30 refl (tt, (tt, (record { fits = lit< tt }, tt)))) $
-          assigns ! (addr ! (from ! (hop ! (look ! 62 refl) (fld ! refl (stop !))))) (from ! (stop !)) (init ! 28 refl (tt, tt)) $ assigns ! (agg ! (and-then ! (load ! (from ! (stop !)) (look ! 28 refl)) (and-then ! (large ! record { fits = lit< tt }) (no-more !)))) (from ! (stop !)) (init ! 26 refl (tt, (tt, (record { fits = lit< tt }, tt)))) $
-          assigns ! (addr ! (from ! (hop ! (look ! 62 refl) (fld ! refl (stop !))))) (from ! (stop !)) (init ! 24 refl (tt, tt)) $ assigns ! (agg ! (and-then ! (load ! (from ! (stop !)) (look ! 24 refl)) (and-then ! (lit ! tt) (no-more !)))) (from ! (stop !)) (init ! 22 refl (tt, (tt, (record { fits = lit< tt }, tt)))) $
-          assigns ! (addr ! (from ! (hop ! (look ! 62 refl) (fld ! refl (stop !))))) (from ! (stop !)) (init ! 20 refl (tt, tt)) $ assigns ! (agg ! (and-then ! (load ! (from ! (stop !)) (look ! 20 refl)) (and-then ! (lit ! tt) (no-more !)))) (from ! (stop !)) (init ! 18 refl (tt, (tt, (record { fits = lit< tt }, tt)))) $
+          assigns ! (addr ! (from ! (hop ! (look ! 26 refl) (fld ! refl (stop !))))) (from ! (stop !)) (init ! 22 refl (tt, tt)) $ assigns ! (agg ! (and-then ! (load ! (from ! (stop !)) (look ! 22 refl)) (and-then ! (lit ! tt) (no-more !)))) (from ! (stop !)) (init ! 20 refl (tt, (tt, (record { fits = lit< tt }, tt)))) $
           -- from the fields to slices, each with a lifetime of its own
-          lft-new ! tt (λ ν₀. move ! (12 ∷ []) $ use1 W (later (some (OnLoan (named 0) (ν₀ ∷ []) u8 b (o + 0) 𝓤 H A 4096 (shared (named 0) (ν₀ ∷ []) u8 b (o + 0) (h .forms) q′) (h .forms)))) (lends-share (named 0) (ν₀ ∷ []) u8 b (o + 0) 𝓤 H A 4096 W tt (lit< tt, lit< tt) q′ (h .forms)) $ await ! tt $ pick ! (λ δ₀. learn ! (λ e₀. split ! $
-          lft-new ! tt (λ ν₁. move ! (14 ∷ []) $ use1 W (later (some (OnLoan (named 1) (ν₁ ∷ []) u8 b (o + 4096) 𝓤 H A 128 (shared (named 1) (ν₁ ∷ []) u8 b (o + 4096) (h .names) q′) (h .names)))) (lends-share (named 1) (ν₁ ∷ []) u8 b (o + 4096) 𝓤 H A 128 W tt (lit< tt, lit< tt) q′ (h .names)) $ await ! tt $ pick ! (λ δ₁. learn ! (λ e₁. split ! $
-          lft-new ! tt (λ ν₂. move ! (16 ∷ []) $ use1 W (later (some (OnLoan (named 2) (ν₂ ∷ []) usize b (o + 4224) 𝓤 H A 8 (shared (named 2) (ν₂ ∷ []) usize b (o + 4224) (h .texts) q′) (h .texts)))) (lends-share (named 2) (ν₂ ∷ []) usize b (o + 4224) 𝓤 H A 8 W tt (lit< tt, lit< tt) q′ (h .texts)) $ await ! tt $ pick ! (λ δ₂. learn ! (λ e₂. split ! $
-          lft-new ! tt (λ ν₃. move ! (18 ∷ []) $ use1 W (later (some (OnLoan (named 3) (ν₃ ∷ []) usize b (o + 4288) 𝓤 H A 8 (shared (named 3) (ν₃ ∷ []) usize b (o + 4288) (h .lens) q′) (h .lens)))) (lends-share (named 3) (ν₃ ∷ []) usize b (o + 4288) 𝓤 H A 8 W tt (lit< tt, lit< tt) q′ (h .lens)) $ await ! tt $ pick ! (λ δ₃. learn ! (λ e₃. split ! $
-          lft-new ! tt (λ ν₄. move ! (20 ∷ []) $ use1 W (later (some (OnLoan (named 4) (ν₄ ∷ []) usize b (o + 4352) 𝓤 H A 1856 (shared (named 4) (ν₄ ∷ []) usize b (o + 4352) (h .plans) q′) (h .plans)))) (lends-share (named 4) (ν₄ ∷ []) usize b (o + 4352) 𝓤 H A 1856 W tt (lit< tt, lit< tt) q′ (h .plans)) $ await ! tt $ pick ! (λ δ₄. learn ! (λ e₄. split ! $
-          lft-new ! tt (λ ν₅. move ! (22 ∷ []) $ use1 W (later (some (OnLoan (named 5) (ν₅ ∷ []) usize b (o + 19200) 𝓤 H A 2 (shared (named 5) (ν₅ ∷ []) usize b (o + 19200) (h .filed) q′) (h .filed)))) (lends-share (named 5) (ν₅ ∷ []) usize b (o + 19200) 𝓤 H A 2 W tt (lit< tt, lit< tt) q′ (h .filed)) $ await ! tt $ pick ! (λ δ₅. learn ! (λ e₅. split ! $
-          lft-new ! tt (λ ν₆. move ! (24 ∷ []) $ use1 W (later (some (OnLoan (named 6) (ν₆ ∷ []) u8 b (o + 19216) 𝓤 H A 16 (shared (named 6) (ν₆ ∷ []) u8 b (o + 19216) (h .name) q′) (h .name)))) (lends-share (named 6) (ν₆ ∷ []) u8 b (o + 19216) 𝓤 H A 16 W tt (lit< tt, lit< tt) q′ (h .name)) $ await ! tt $ pick ! (λ δ₆. learn ! (λ e₆. split ! $
-          lft-new ! tt (λ ν₇. move ! (26 ∷ []) $ use1 W (later (some (OnLoan (named 7) (ν₇ ∷ []) u8 b (o + 19232) 𝓤 H A 1024 (shared (named 7) (ν₇ ∷ []) u8 b (o + 19232) (h .text) q′) (h .text)))) (lends-share (named 7) (ν₇ ∷ []) u8 b (o + 19232) 𝓤 H A 1024 W tt (lit< tt, lit< tt) q′ (h .text)) $ await ! tt $ pick ! (λ δ₇. learn ! (λ e₇. split ! $
-          lft-new ! tt (λ ν₈. move ! (28 ∷ []) $ use1 W (later (some (OnLoan (named 8) (ν₈ ∷ []) u8 b (o + 20256) 𝓤 H A 1700 (shared (named 8) (ν₈ ∷ []) u8 b (o + 20256) (h .answers) q′) (h .answers)))) (lends-share (named 8) (ν₈ ∷ []) u8 b (o + 20256) 𝓤 H A 1700 W tt (lit< tt, lit< tt) q′ (h .answers)) $ await ! tt $ pick ! (λ δ₈. learn ! (λ e₈. split ! $
-          lft-new ! tt (λ ν₉. move ! (30 ∷ []) $ use1 W (later (some (OnLoan (named 9) (ν₉ ∷ []) usize b (o + 21960) 𝓤 H A 104 (shared (named 9) (ν₉ ∷ []) usize b (o + 21960) (h .values) q′) (h .values)))) (lends-share (named 9) (ν₉ ∷ []) usize b (o + 21960) 𝓤 H A 104 W tt (lit< tt, lit< tt) q′ (h .values)) $ await ! tt $ pick ! (λ δ₉. learn ! (λ e₉. split ! $
-          lft-new ! tt (λ ν₁₀. move ! (31 ∷ []) $ use1 W (later (some (OnLoan (named 10) (ν₁₀ ∷ []) usize b (o + 22792) 𝓤 H A 10 (shared (named 10) (ν₁₀ ∷ []) usize b (o + 22792) (h .held) q′) (h .held)))) (lends-share (named 10) (ν₁₀ ∷ []) usize b (o + 22792) 𝓤 H A 10 W tt (lit< tt, lit< tt) q′ (h .held)) $ await ! tt $ pick ! (λ δ₁₀. learn ! (λ e₁₀. split ! $
-          move ! (32 ∷ 29 ∷ 26 ∷ 23 ∷ 20 ∷ 17 ∷ 14 ∷ 11 ∷ 8 ∷ 5 ∷ 2 ∷ 37 ∷ 30 ∷ 27 ∷ 24 ∷ 21 ∷ 18 ∷ 15 ∷ 12 ∷ 9 ∷ 6 ∷ 3 ∷ 0 ∷ 88 ∷ []) $ cut (handed-over ν₀ δ₀ ν₁ δ₁ ν₂ δ₂ ν₃ δ₃ ν₄ δ₄ ν₅ δ₅ ν₆ δ₆ ν₇ δ₇ ν₈ δ₈ ν₉ δ₉ ν₁₀ δ₁₀) (raw (Callee .pre (at-call ν₀ δ₀ ν₁ δ₁ ν₂ δ₂ ν₃ δ₃ ν₄ δ₄ ν₅ δ₅ ν₆ δ₆ ν₇ δ₇ ν₈ δ₈ ν₉ δ₉ ν₁₀ δ₁₀)) ∷ []) _ (hands-over ν₀ δ₀ ν₁ δ₁ ν₂ δ₂ ν₃ δ₃ ν₄ δ₄ ν₅ δ₅ ν₆ δ₆ ν₇ δ₇ ν₈ δ₈ ν₉ δ₉ ν₁₀ δ₁₀) $
-          calls-at ! fm Callee known (at-call ν₀ δ₀ ν₁ δ₁ ν₂ δ₂ ν₃ δ₃ ν₄ δ₄ ν₅ δ₅ ν₆ δ₆ ν₇ δ₇ ν₈ δ₈ ν₉ δ₉ ν₁₀ δ₁₀) (and-then ! (load ! (from ! (stop !)) (look ! 58 refl)) (and-then ! (load ! (from ! (stop !)) (look ! 54 refl)) (and-then ! (load ! (from ! (stop !)) (look ! 50 refl)) (and-then ! (load ! (from ! (stop !)) (look ! 46 refl)) (and-then ! (load ! (from ! (stop !)) (look ! 42 refl)) (and-then ! (load ! (from ! (stop !)) (look ! 38 refl)) (and-then ! (load ! (from ! (stop !)) (look ! 34 refl)) (and-then ! (load ! (from ! (stop !)) (look ! 30 refl)) (and-then ! (load ! (from ! (stop !)) (look ! 26 refl)) (and-then ! (load ! (from ! (stop !)) (look ! 22 refl)) (and-then ! (load ! (from ! (stop !)) (look ! 18 refl)) (no-more !)))))))))))) (λ u.
-          use1 W (later (some (λ (r : Result .Denot). ((‵ (flft (ν₀ ∷ []) fullShare) ⊛ ‵ (flft (ν₁ ∷ []) fullShare) ⊛ ‵ (flft (ν₂ ∷ []) fullShare) ⊛ ‵ (flft (ν₃ ∷ []) fullShare) ⊛ ‵ (flft (ν₄ ∷ []) fullShare) ⊛ ‵ (flft (ν₅ ∷ []) fullShare) ⊛ ‵ (flft (ν₆ ∷ []) fullShare) ⊛ ‵ (flft (ν₇ ∷ []) fullShare) ⊛ ‵ (flft (ν₈ ∷ []) fullShare) ⊛ ‵ (flft (ν₉ ∷ []) fullShare) ⊛ ‵ (flft (ν₁₀ ∷ []) fullShare) ⊛ ‵ ftrue) ⊛ ‵ (Result .own r (u ∷ []))) ⊛ raw (ensured 𝓤 H A callee.ended (callee.clauses 𝓤 H A at-mem run) (ν₀ ∷ [], (ν₁ ∷ [], (ν₂ ∷ [], (ν₃ ∷ [], (ν₄ ∷ [], (ν₅ ∷ [], (ν₆ ∷ [], (ν₇ ∷ [], (ν₈ ∷ [], (ν₉ ∷ [], (ν₁₀ ∷ [], tt))))))))))) (sent ν₀ δ₀ ν₁ δ₁ ν₂ δ₂ ν₃ δ₃ ν₄ δ₄ ν₅ δ₅ ν₆ δ₆ ν₇ δ₇ ν₈ δ₈ ν₉ δ₉ ν₁₀ δ₁₀) tt r)))) (id⊢ 𝓤 _) $ await ! tt $ pick ! (λ r. split ! $ split ! $ split ! $ move ! (1 ∷ []) $ split ! $ move ! (1 ∷ []) $ split ! $ move ! (1 ∷ []) $ split ! $ move ! (1 ∷ []) $ split ! $ move ! (1 ∷ []) $ split ! $ move ! (1 ∷ []) $ split ! $ move ! (1 ∷ []) $ split ! $ move ! (1 ∷ []) $ split ! $ move ! (1 ∷ []) $ split ! $ move ! (1 ∷ []) $ split ! $
+          lft-new ! tt (λ ν₁₀. move ! (1 ∷ []) $ use1 W (later (some (OnLoan (named 0) (ν₁₀ ∷ []) usize b (o + 126376) 𝓤 H A 302 (shared (named 0) (ν₁₀ ∷ []) usize b (o + 126376) (h .held) q′) (h .held)))) (lends-share (named 0) (ν₁₀ ∷ []) usize b (o + 126376) 𝓤 H A 302 W tt (lit< tt, lit< tt) q′ (h .held)) $ await ! tt $ pick ! (λ δ₁₀. learn ! (λ e₁₀. split ! $
+          move ! (32 ∷ []) $ heard ! _ (λ holds. use0 W (raw (Asked ν₁₀ δ₁₀)) (factI 𝓤 _ (emp 𝓤) (needs-law h holds)) $ move ! (3 ∷ 18 ∷ 1 ∷ 21 ∷ 0 ∷ []) $ cut (handed-over ν₁₀ δ₁₀) (raw (Callee .pre (at-call ν₁₀ δ₁₀)) ∷ []) _ (hands-over ν₁₀ δ₁₀) $
+          calls-at ! fm Callee known (at-call ν₁₀ δ₁₀) (and-then ! (load ! (from ! (stop !)) (look ! 19 refl)) (and-then ! (load ! (from ! (stop !)) (look ! 23 refl)) (no-more !))) (λ u.
+          use1 W (later (some (λ (r : Result .Denot). ((‵ (flft (ν₁₀ ∷ []) fullShare) ⊛ ‵ ftrue) ⊛ ‵ (Result .own r (u ∷ []))) ⊛ raw (ensured 𝓤 H A callee.ended (callee.clauses 𝓤 H A at-mem run) (ν₁₀ ∷ [], tt) (sent ν₁₀ δ₁₀) tt r)))) (id⊢ 𝓤 _) $ await ! tt $ pick ! (λ r. split ! $ split ! $ split ! $
           -- its promise
-          move ! (13 ∷ []) $ use1 W (some (λ (zs : Lasts). ‵ (lasts callee.ended (ν₀ ∷ [], (ν₁ ∷ [], (ν₂ ∷ [], (ν₃ ∷ [], (ν₄ ∷ [], (ν₅ ∷ [], (ν₆ ∷ [], (ν₇ ∷ [], (ν₈ ∷ [], (ν₉ ∷ [], (ν₁₀ ∷ [], tt))))))))))) (sent ν₀ δ₀ ν₁ δ₁ ν₂ δ₂ ν₃ δ₃ ν₄ δ₄ ν₅ δ₅ ν₆ δ₆ ν₇ δ₇ ν₈ δ₈ ν₉ δ₉ ν₁₀ δ₁₀) zs) ⊛ raw (callee.clauses 𝓤 H A at-mem run (ν₀ ∷ [], (ν₁ ∷ [], (ν₂ ∷ [], (ν₃ ∷ [], (ν₄ ∷ [], (ν₅ ∷ [], (ν₆ ∷ [], (ν₇ ∷ [], (ν₈ ∷ [], (ν₉ ∷ [], (ν₁₀ ∷ [], tt))))))))))) (sent ν₀ δ₀ ν₁ δ₁ ν₂ δ₂ ν₃ δ₃ ν₄ δ₄ ν₅ δ₅ ν₆ δ₆ ν₇ δ₇ ν₈ δ₈ ν₉ δ₉ ν₁₀ δ₁₀) .ensures tt r (atExit callee.ended (ν₀ ∷ [], (ν₁ ∷ [], (ν₂ ∷ [], (ν₃ ∷ [], (ν₄ ∷ [], (ν₅ ∷ [], (ν₆ ∷ [], (ν₇ ∷ [], (ν₈ ∷ [], (ν₉ ∷ [], (ν₁₀ ∷ [], tt))))))))))) (sent ν₀ δ₀ ν₁ δ₁ ν₂ δ₂ ν₃ δ₃ ν₄ δ₄ ν₅ δ₅ ν₆ δ₆ ν₇ δ₇ ν₈ δ₈ ν₉ δ₉ ν₁₀ δ₁₀) zs)))) (id⊢ 𝓤 _) $ pick ! (λ zs. split ! $ fsplit ! $ move ! (1 ∷ []) $ fsplit ! $ move ! (1 ∷ []) $ fsplit ! $ move ! (1 ∷ []) $ fsplit ! $ move ! (1 ∷ []) $ fsplit ! $ move ! (1 ∷ []) $ fsplit ! $ move ! (1 ∷ []) $ fsplit ! $ move ! (1 ∷ []) $ fsplit ! $ move ! (1 ∷ []) $ fsplit ! $ move ! (1 ∷ []) $ fsplit ! $ move ! (1 ∷ []) $ fsplit ! $
-          move ! (25 ∷ []) $ peeks ! Result (Is Result) (shows 𝓤 H A Result) r (u ∷ []) (λ is. land ! (from ! (stop !)) (init ! 89 refl (LL.usize-laws .lawful 𝓤 H A W .typed r _ is .0)) $
+          move ! (3 ∷ []) $ use1 W (some (λ (zs : Lasts). ‵ (lasts callee.ended (ν₁₀ ∷ [], tt) (sent ν₁₀ δ₁₀) zs) ⊛ raw (callee.clauses 𝓤 H A at-mem run (ν₁₀ ∷ [], tt) (sent ν₁₀ δ₁₀) .ensures tt r (atExit callee.ended (ν₁₀ ∷ [], tt) (sent ν₁₀ δ₁₀) zs)))) (id⊢ 𝓤 _) $ pick ! (λ zs. split ! $ fsplit ! $ move ! (1 ∷ []) $ fsplit ! $
+          move ! (6 ∷ []) $ peeks ! Result (Is Result) (shows 𝓤 H A Result) r (u ∷ []) (λ is. land ! (from ! (stop !)) (init ! 33 refl (LL.usize-laws .lawful 𝓤 H A W .typed r _ is .0)) $
           -- the slices are over, and are fields again
-          move ! (25 ∷ []) $ lft-end ! tt $ move ! (0 ∷ 36 ∷ []) $ use2 W (later (‵ (partAt (Array u8 4096) q′ (h .forms) b (o + 0)))) (share-again (named 0) (ν₀ ∷ []) u8 b (o + 0) 𝓤 H A 4096 W δ₀ q′ (h .forms)) $ await ! tt $
-          move ! (25 ∷ []) $ lft-end ! tt $ move ! (0 ∷ 35 ∷ []) $ use2 W (later (‵ (partAt (Array u8 128) q′ (h .names) b (o + 4096)))) (share-again (named 1) (ν₁ ∷ []) u8 b (o + 4096) 𝓤 H A 128 W δ₁ q′ (h .names)) $ await ! tt $
-          move ! (25 ∷ []) $ lft-end ! tt $ move ! (0 ∷ 34 ∷ []) $ use2 W (later (‵ (partAt (Array usize 8) q′ (h .texts) b (o + 4224)))) (share-again (named 2) (ν₂ ∷ []) usize b (o + 4224) 𝓤 H A 8 W δ₂ q′ (h .texts)) $ await ! tt $
-          move ! (25 ∷ []) $ lft-end ! tt $ move ! (0 ∷ 33 ∷ []) $ use2 W (later (‵ (partAt (Array usize 8) q′ (h .lens) b (o + 4288)))) (share-again (named 3) (ν₃ ∷ []) usize b (o + 4288) 𝓤 H A 8 W δ₃ q′ (h .lens)) $ await ! tt $
-          move ! (25 ∷ []) $ lft-end ! tt $ move ! (0 ∷ 32 ∷ []) $ use2 W (later (‵ (partAt (Array usize 1856) q′ (h .plans) b (o + 4352)))) (share-again (named 4) (ν₄ ∷ []) usize b (o + 4352) 𝓤 H A 1856 W δ₄ q′ (h .plans)) $ await ! tt $
-          move ! (25 ∷ []) $ lft-end ! tt $ move ! (0 ∷ 31 ∷ []) $ use2 W (later (‵ (partAt (Array usize 2) q′ (h .filed) b (o + 19200)))) (share-again (named 5) (ν₅ ∷ []) usize b (o + 19200) 𝓤 H A 2 W δ₅ q′ (h .filed)) $ await ! tt $
-          move ! (25 ∷ []) $ lft-end ! tt $ move ! (0 ∷ 30 ∷ []) $ use2 W (later (‵ (partAt (Array u8 16) q′ (h .name) b (o + 19216)))) (share-again (named 6) (ν₆ ∷ []) u8 b (o + 19216) 𝓤 H A 16 W δ₆ q′ (h .name)) $ await ! tt $
-          move ! (25 ∷ []) $ lft-end ! tt $ move ! (0 ∷ 29 ∷ []) $ use2 W (later (‵ (partAt (Array u8 1024) q′ (h .text) b (o + 19232)))) (share-again (named 7) (ν₇ ∷ []) u8 b (o + 19232) 𝓤 H A 1024 W δ₇ q′ (h .text)) $ await ! tt $
-          move ! (25 ∷ []) $ lft-end ! tt $ move ! (0 ∷ 28 ∷ []) $ use2 W (later (‵ (partAt (Array u8 1700) q′ (h .answers) b (o + 20256)))) (share-again (named 8) (ν₈ ∷ []) u8 b (o + 20256) 𝓤 H A 1700 W δ₈ q′ (h .answers)) $ await ! tt $
-          move ! (25 ∷ []) $ lft-end ! tt $ move ! (0 ∷ 27 ∷ []) $ use2 W (later (‵ (partAt (Array usize 104) q′ (h .values) b (o + 21960)))) (share-again (named 9) (ν₉ ∷ []) usize b (o + 21960) 𝓤 H A 104 W δ₉ q′ (h .values)) $ await ! tt $
-          move ! (24 ∷ []) $ lft-end ! tt $ move ! (0 ∷ 26 ∷ []) $ use2 W (later (‵ (partAt (Array usize 10) q′ (h .held) b (o + 22792)))) (share-again (named 10) (ν₁₀ ∷ []) usize b (o + 22792) 𝓤 H A 10 W δ₁₀ q′ (h .held)) $ await ! tt $
+          move ! (5 ∷ []) $ lft-end ! tt $ move ! (0 ∷ 7 ∷ []) $ use2 W (later (‵ (partAt (Array usize 302) q′ (h .held) b (o + 126376)))) (share-again (named 0) (ν₁₀ ∷ []) usize b (o + 126376) 𝓤 H A 302 W δ₁₀ q′ (h .held)) $ await ! tt $
           -- from the fields to the borrow
-          nothing ! $ move ! (1 ∷ 0 ∷ []) $ fjoin ! $ move ! (1 ∷ 0 ∷ []) $ fjoin ! $ move ! (1 ∷ 0 ∷ []) $ fjoin ! $ move ! (1 ∷ 0 ∷ []) $ fjoin ! $ move ! (1 ∷ 0 ∷ []) $ fjoin ! $ move ! (1 ∷ 0 ∷ []) $ fjoin ! $ move ! (1 ∷ 0 ∷ []) $ fjoin ! $ move ! (1 ∷ 0 ∷ []) $ fjoin ! $ move ! (1 ∷ 0 ∷ []) $ fjoin ! $ move ! (1 ∷ 0 ∷ []) $ fjoin ! $ move ! (1 ∷ 0 ∷ []) $ fjoin ! $ move ! (0 ∷ 17 ∷ []) $ use2 W (‵ (partAt Self q′ h b o)) (puts-together q′ b o 𝓤 H A W h) $ move ! (17 ∷ 0 ∷ []) $ obor-close ! tt $
-          returns ! (look ! 67 refl) $ forget ! 67 refl $ forget ! 65 refl $ forget ! 63 refl $ forget ! 61 refl $ forget ! 59 refl $ forget ! 57 refl $ forget ! 55 refl $ forget ! 53 refl $ forget ! 51 refl $ forget ! 49 refl $ forget ! 47 refl $ forget ! 45 refl $ forget ! 43 refl $ forget ! 41 refl $ forget ! 39 refl $ forget ! 37 refl $ forget ! 35 refl $ forget ! 33 refl $ forget ! 31 refl $ forget ! 29 refl $ forget ! 27 refl $ forget ! 25 refl $ forget ! 23 refl $ forget ! 21 refl $
-          move ! (67 ∷ 68 ∷ []) $ free1 ! $ move ! (65 ∷ 66 ∷ []) $ free1 ! $ move ! (63 ∷ 64 ∷ []) $ free1 ! $ move ! (61 ∷ 62 ∷ []) $ free1 ! $ move ! (59 ∷ 60 ∷ []) $ free1 ! $ move ! (57 ∷ 58 ∷ []) $ free1 ! $ move ! (55 ∷ 56 ∷ []) $ free1 ! $ move ! (53 ∷ 54 ∷ []) $ free1 ! $ move ! (51 ∷ 52 ∷ []) $ free1 ! $ move ! (49 ∷ 50 ∷ []) $ free1 ! $ move ! (47 ∷ 48 ∷ []) $ free1 ! $ move ! (45 ∷ 46 ∷ []) $ free1 ! $ move ! (43 ∷ 44 ∷ []) $ free1 ! $ move ! (41 ∷ 42 ∷ []) $ free1 ! $ move ! (39 ∷ 40 ∷ []) $ free1 ! $ move ! (37 ∷ 38 ∷ []) $ free1 ! $ move ! (35 ∷ 36 ∷ []) $ free1 ! $ move ! (33 ∷ 34 ∷ []) $ free1 ! $ move ! (31 ∷ 32 ∷ []) $ free1 ! $ move ! (29 ∷ 30 ∷ []) $ free1 ! $ move ! (27 ∷ 28 ∷ []) $ free1 ! $ move ! (25 ∷ 26 ∷ []) $ free1 ! $ move ! (23 ∷ 24 ∷ []) $ free1 ! $ move ! (21 ∷ 22 ∷ []) $ free1 ! $ free0 ! $
-          keep ! (1 ∷ 16 ∷ 19 ∷ 2 ∷ 15 ∷ []) $ by ! (gives-back r u)))))))))))))))))))))))))))))))))))))))))))))))))))))))))))))))
+          nothing ! $ move ! (1 ∷ 0 ∷ []) $ fjoin ! $ move ! (8 ∷ 0 ∷ []) $ fjoin ! $ move ! (8 ∷ 0 ∷ []) $ fjoin ! $ move ! (8 ∷ 0 ∷ []) $ fjoin ! $ move ! (8 ∷ 0 ∷ []) $ fjoin ! $ move ! (8 ∷ 0 ∷ []) $ fjoin ! $ move ! (8 ∷ 0 ∷ []) $ fjoin ! $ move ! (8 ∷ 0 ∷ []) $ fjoin ! $ move ! (8 ∷ 0 ∷ []) $ fjoin ! $ move ! (8 ∷ 0 ∷ []) $ fjoin ! $ move ! (8 ∷ 0 ∷ []) $ fjoin ! $ move ! (0 ∷ 8 ∷ []) $ use2 W (‵ (partAt Self q′ h b o)) (puts-together q′ b o 𝓤 H A W h) $ move ! (8 ∷ 0 ∷ []) $ obor-close ! tt $
+          returns ! (look ! 21 refl) $ forget ! 21 refl $ forget ! 19 refl $ forget ! 17 refl $ forget ! 15 refl $ forget ! 13 refl $
+          move ! (21 ∷ 22 ∷ []) $ free1 ! $ move ! (19 ∷ 20 ∷ []) $ free1 ! $ move ! (17 ∷ 18 ∷ []) $ free1 ! $ move ! (15 ∷ 16 ∷ []) $ free1 ! $ move ! (13 ∷ 14 ∷ []) $ free1 ! $ free0 ! $
+          keep ! (1 ∷ 7 ∷ 11 ∷ 10 ∷ 2 ∷ 6 ∷ []) $ by ! (gives-back r u)))))))))))))))
 
   meets : (W : Given 𝓤 H A) (𝓣 : Tables 𝓤 H) → Cited (𝓣 .C) → Meets 𝓤 H A this.signature (WpFn 𝓤 H (𝓣 .C) (𝓣 .Λ) code.function) (this.spec 𝓤 H A at-mem run)
   meets W 𝓣 known =
-      walk-meets 𝓤 H A this.ended endings W (goes-none-ref 𝓤 H A W 1 (0 ∷ []) tt (plain (λ _. Self)) yes, tt)
+      walk-meets 𝓤 H A this.ended endings W (goes-none-ref 𝓤 H A W 1 (0 ∷ []) tt (plain (λ _. Self)) yes, (goes-none 𝓤 H A W 1 (λ _. usize) yes (λ κs x f. refl), tt))
       (this.clauses 𝓤 H A at-mem run) (WpFn 𝓤 H (𝓣 .C) (𝓣 .Λ) code.function) (WpFn-mono 𝓤 H (W .laws) 𝓣 code.function)
       (walked 𝓤 H A this.ended endings (this.clauses 𝓤 H A at-mem run) (WpFn 𝓤 H (𝓣 .C) (𝓣 .Λ) code.function)
-      (λ κs. (ptr-vals, tt))
-      (λ κs. (shr-tells (named 0) (κs .0) Self, tt))
-      (λ κs qs bounds a g are. walk W (κs .0) (qs .0) (a .0 .ptr .0) (a .0 .ptr .1) (a .0 .name) (a .0 .now) (𝓣 .C) (𝓣 .Λ) (fmOf 𝓤 H (W .laws) 𝓣) known are))
+      (λ κs. (ptr-vals, (uint-vals w64, tt)))
+      (λ κs. (shr-tells (named 0) (κs .0) Self, (uint-tells w64, tt)))
+      (λ κs qs bounds a g are. walk W (κs .0) (qs .0) (a .0 .ptr .0) (a .0 .ptr .1) (a .0 .name) (a .0 .now) (a .1 .0) (𝓣 .C) (𝓣 .Λ) (fmOf 𝓤 H (W .laws) 𝓣) known are))
 
 pub sets-left-spec : {M : Type 1} → to-show.statement M
 unfolding tablesOf code.routine
 sets-left-spec 𝓤 H 𝓜 𝓖 𝓡 =
     let 𝓣 : MachineTables 𝓤 H 𝓜 = tables 𝓤 H 𝓜 𝓡 code.env in
     entered 𝓤 H (tripleOf 𝓤 H (𝓖 .A) this.signature (this.spec 𝓤 H (𝓖 .A) (𝓜 .mem) (𝓡 .run))) (𝓣 .C) (𝓣 .Λ) key.name code.function (code.unfolded 𝓤 H 𝓜 𝓡)
-    (meets 𝓤 H (𝓖 .A) (𝓜 .mem) (𝓡 .run) (givenOf 𝓤 H 𝓜 𝓖) (tablesOf 𝓤 H 𝓜 𝓣) (cited 𝓤 H (Callee 𝓤 H (𝓖 .A) (𝓜 .mem) (𝓡 .run)) 𝓜 𝓡 code.env callee-def.name callee-def.routine code.calls-call·sets-left (callee-thm.met 𝓤 H 𝓜 𝓖 𝓡)))
+    (meets 𝓤 H (𝓖 .A) (𝓜 .mem) (𝓡 .run) (givenOf 𝓤 H 𝓜 𝓖) (tablesOf 𝓤 H 𝓜 𝓣) (cited 𝓤 H (Callee 𝓤 H (𝓖 .A) (𝓜 .mem) (𝓡 .run)) 𝓜 𝓡 code.env callee-def.name callee-def.routine code.calls-tablets·counts·sets-left (callee-thm.met 𝓤 H 𝓜 𝓖 𝓡)))

@@ -1,0 +1,4 @@
+pub mod Emit
+pub mod Fill
+pub mod Tell
+pub mod Waiting

@@ -1,0 +1,3 @@
+pub mod Asking
+pub mod Heading
+pub mod First

@@ -1,6 +1,6 @@
 -- The calls: memory that calls lead to is a session beside a shelf, and what a step leaves is such memory again.
-use Prim.Native.Nat.{ℕ, suc, _-_, _≤_}
-use mathlib.Core.Path.{_≡_, refl, sym, _∙_, ap, subst}
+use Prim.Native.Nat.{ℕ}
+use mathlib.Core.Path.{_≡_, refl, sym, _∙_, ap}
 use mathlib.Core.Bool.{true}
 use mathlib.Core.List.{List, [], _∷_}
 use native.Mathlib.Omega.{arith}
@@ -8,15 +8,13 @@ use lib.ListN.{length, take, getD}
 use Rattle.paper.specs.Byte.{every}
 use Rattle.paper.specs.Command.{isShown}
 use Rattle.paper.specs.Line.{kept, control}
-use Rattle.paper.specs.Form.{Form}
 use Rattle.paper.specs.Bench as P
-use Rattle.paper.specs.State.{Sane}
 use Rattle.command.specs.View.{width}
 use Rattle.command.specs.declared.Answer.{Answer}
 use Rattle.command.specs.declared.Refusal.{Refusal}
 use Rattle.store.specs.Packed.{Store}
 use Rattle.store.specs.declared.Filed.{Filed}
-use Rattle.session.specs.Memory.{Session, Shelf, sessionOf, shelfOf, drafts, drafting, holds, holding, packedSession, packedShelf}
+use Rattle.session.specs.Memory.{Session, Shelf, sessionOf, shelfOf, packedSession, packedShelf}
 use Rattle.session.specs.Outcome.{At, Does, Hears, Answers, Refuses, Takes, Showing, Planned, Kept, NotAnswering, afterLine}
 use Rattle.call.specs.Call.{Memory, memoryOf, laid, packedBench, Reached, HearsLine, TakesSet}
 use Rattle.seats.specs.Numbers.{codeOf, heldIn, filedIn}
@@ -25,8 +23,6 @@ use Rattle.session.specs.declared.state.Held.{Held}
 use Rattle.session.specs.declared.state.Turn.{Turn}
 use Rattle.session.specs.declared.state.Mode.{Mode}
 use Rattle.session.specs.declared.state.Mode.the-variants as M
-use Rattle.session.proofs.Held.{Tagged, wrong}
-use Rattle.printing.proofs.Printed.{prints}
 use Rattle.listen.specs.Waiting.{Waits, faultOf}
 use Rattle.listen.proofs.Hearing.{hears-shown, kept-fault, heard-waits, after-waits}
 use Rattle.call.proofs.Leading.{hears-on, takes-on}

@@ -1,22 +1,17 @@
 -- The memory of a bench, and what a call promises from memory that calls lead to.
 use Prim.Native.Nat.{ℕ}
 use mathlib.Core.Path.{_≡_}
-use mathlib.Core.List.{List, [], _∷_}
+use mathlib.Core.List.{List}
 use lib.ListN.{length}
-use lib.Dec.{eqb}
-use Rattle.paper.specs.Byte.{if_then_else_}
 use Rattle.paper.specs.Bench as P
 use Rattle.paper.specs.Line.{kept}
 use Rattle.paper.specs.State.{Sane}
 use Rattle.command.specs.View.{width}
 use Rattle.command.specs.Answer.{Meets}
 use Rattle.command.specs.declared.Answer.{Answer}
-use Rattle.store.specs.Packed.{Store}
 use Rattle.session.specs.Memory.{Session, Shelf, packedSession, packedShelf, Opens}
 use Rattle.session.specs.Outcome.{afterLine}
-use Rattle.session.specs.declared.state.Mode.{Mode}
 use Rattle.session.specs.declared.state.Mode.the-variants as M
-use Rattle.session.specs.declared.state.Held.{Held}
 use Rattle.seats.specs.Numbers.{heldIn, filedIn}
 
 -- the memory of a bench: the forms' texts and names, the lengths of both, their plans and the store's numbers; the draft's name and text,

@@ -17,7 +17,7 @@ use Rattle.paper.specs.Command.{Filing}
 use Rattle.paper.specs.Form.{Form}
 use Rattle.paper.specs.Set.{setOf}
 use Rattle.paper.specs.Program.{enough, outOf, toTake}
-use Rattle.paper.specs.Class.{Class, thirty, Reply, reply, denied, desk, hearOf, hearFrom, turn, prints, serve, takeNext, SaneClass, filingOf, sends, replyTo}
+use Rattle.paper.specs.Class.{Class, thirty, Reply, reply, denied, desk, hearOf, hearFrom, turn, prints, serve, takeNext, SaneClass, filingOf, replyTo}
 use Rattle.paper.specs.ClassProgram.{replyFor, okHead, noHead, recordOf}
 use Rattle.paper.proofs.Law.{if-true, if-false}
 use Rattle.paper.proofs.Test.{either}

@@ -10,7 +10,7 @@ use lib.Dec.{leb}
 use Rattle.paper.specs.Byte.{if_then_else_, bytes, between, every, any, among, same}
 use Rattle.paper.specs.Line.{isDigit}
 use Rattle.paper.specs.Command.{isName, isNameByte, star}
-use Rattle.paper.specs.Form.{textOf, without, used}
+use Rattle.paper.specs.Form.{textOf, used}
 use Rattle.paper.specs.State.{AllStored}
 use Rattle.paper.specs.Bench as P
 use Rattle.paper.proofs.Law.{and-left, and-right}

@@ -33,7 +33,7 @@ use Rattle.normal.proofs.RoundTrips.{stand-held}
 use Rattle.form.specs.Sound.{lineNumber}
 use Rattle.form.specs.Noting.{Plannable, Plans}
 use Rattle.store.specs.Packed.{Store, entry, packed}
-use Rattle.store.specs.Lent.{Stocked, Spare, Joins}
+use Rattle.store.specs.Lent.{Spare, Joins}
 use Rattle.store.specs.declared.Filed.{Filed}
 use Rattle.session.specs.Memory.{Session, sessionOf, Shelf, shelfOf, drafts, drafting, packedSession, packedShelf, entriesOf, plansOf, afterFiling, afterCommand}
 use Rattle.session.specs.Outcome.{At, Kept, Used, Does, Minds, Files, Refuses, Keeps, Collects, Drafted, Shelves, obey}

@@ -13,7 +13,7 @@ use Rattle.paper.specs.Form.{Form, textOf, asked, isSome, listing}
 use Rattle.paper.specs.Bench as P
 use Rattle.paper.specs.Write.{linesText}
 use Rattle.paper.proofs.Test.{either}
-use Rattle.text.specs.Write.{Writes, written, padded}
+use Rattle.text.specs.Write.{Writes, padded}
 use Rattle.text.specs.declared.read.Span.{Span}
 use Rattle.text.proofs.Padded.{padded-length, padded-write}
 use Rattle.command.specs.View.{refusalOf, textIn}

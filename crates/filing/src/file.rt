@@ -143,7 +143,7 @@ pub fn recall(
 }
 
 // The form whose name stands in a line: looked for where it lies if it has no escape, and else unescaped.
-pub fn find_string(
+fn find_string(
     filed: Filed,
     all: &[u8],
     names: &[u8],

@@ -11,7 +11,7 @@ use lib.Dec.{eqb, ltb}
 use borrow.Author.Tests.{not-true, eqb-true, ltb-true, ltb-false}
 use Rattle.paper.specs.Byte.{if_then_else_, every}
 use Rattle.paper.specs.Line.{lf, isDropped, kept, infront, cut}
-use Rattle.paper.proofs.Law.{if-true, if-false, by-test, and-left, and-right}
+use Rattle.paper.proofs.Law.{if-true, if-false, and-left, and-right}
 use Rattle.paper.proofs.Test.{either}
 use Rattle.paper.proofs.Text.{every-append}
 use Rattle.text.specs.Place.{from}
@@ -51,15 +51,6 @@ kept-dropped b s e = if-true _ _ _ e
 pub kept-none : kept [] ≡ []
 unfolding kept
 kept-none = refl
-
--- what is kept of two texts
-pub kept-append : (s t : List ℕ) → kept (s ++ t) ≡ kept s ++ kept t
-unfolding kept
-kept-append [] t = refl
-kept-append (b ∷ s) t =
-    either (isDropped b)
-    (λ y. if-true _ _ _ y ∙ kept-append s t ∙ rw (if-true (isDropped b) (kept s) (b ∷ kept s) y))
-    (λ n. if-false _ _ _ n ∙ ap (λ x. b ∷ x) (kept-append s t) ∙ rw (if-false (isDropped b) (kept s) (b ∷ kept s) n))
 
 -- LF is not dropped
 pub lf-stays : isDropped lf ≡ false

@@ -48,6 +48,12 @@ unfolding after emit
 emit-append s [] y = emit-settles s y
 emit-append s (b ∷ x) y = rw (emit-append (step (settled s) b) x y, joined-assoc, joined-assoc)
 
+-- and leads on from where that one led
+pub after-append : (s : Standing) (x y : List ℕ) → after s (x ++ y) ≡ after (after s x) y
+unfolding after
+after-append s [] y = after-settles s y
+after-append s (b ∷ x) y = after-append (step (settled s) b) x y
+
 -- the paper's run of no line
 runs-none : (b : Bench) (k : ℕ) → runs width k b [] ≡ silence
 unfolding runs

@@ -8,10 +8,9 @@ use lib.ListN.{length, take, drop, drop-of-length-le}
 use lib.Dec.{eqb, ltb}
 use borrow.Author.Tests.{eqb-true, ltb-true, ltb-false}
 use Rattle.paper.specs.Byte.{if_then_else_}
-use Rattle.paper.specs.Form.{Form}
 use Rattle.paper.specs.Line.{lf, kept}
 use Rattle.paper.specs.Bench as P
-use Rattle.paper.specs.State.{Led, Sound, hearing, taking}
+use Rattle.paper.specs.State.{Led, hearing, taking}
 use Rattle.paper.specs.Class.{thirty, desk}
 use Rattle.paper.specs.Program.{enough, toTake}
 use Rattle.paper.proofs.Law.{by-test}
@@ -25,6 +24,7 @@ use Rattle.call.specs.Call.{Memory}
 use Rattle.listen.specs.Waiting.{Waiting, Comes}
 use Rattle.tablets.specs.Calls.{leftOf, SetsLeft}
 use Rattle.tablets.proofs.Leading.{reached-counts}
+use Rattle.tablets.proofs.Left.{left-few}
 use Rattle.reports.specs.Said.{Lone, Sole, HearsAt, TakesAt}
 use Rattle.flow.specs.Feed.{feed, line}
 use Rattle.flow.specs.declared.fill.Reach.{Reach}
@@ -57,19 +57,8 @@ leads-then l m =
       stays = λ more. l .stays more ∙ m .stays more;
     }
 
--- `P` asks for at most 65,535 sets, so no more are ever due
-due-few : (forms : List Form) (s : P.Session) → Sound width forms s → toTake s ≤ 65535
-unfolding toTake
-due-few forms P.idle h = omega arith
-due-few forms (P.collecting name ls) h = omega arith
-due-few forms P.spoiled h = omega arith
-due-few forms (P.opened ls) h = omega arith
-due-few forms (P.answering ls answers) h = omega arith
-due-few forms (P.ready ls answers) h = omega arith
-due-few forms (P.printing ls answers n c i) h = omega (arith, h .2 .counted)
-
 due-at : {d : Desk} {s : Standing} → At d s → d .run .left ≤ 65535
-due-at {d} {s} a = omega (arith, a .leaves, a .due, due-few (s .bench .forms) (s .bench .session) (led-sane width (a .led) .session))
+due-at {d} {s} a = omega (arith, a .leaves, a .due, left-few (s .bench .forms) (s .bench .session) (led-sane width (a .led) .session))
 
 -- what is left to the tablet is what its bench has left
 left-due : (memory : Memory) (b : P.Bench) (n : ℕ) → Lone memory b → SetsLeft (memory .held) 0 n → n ≡ toTake (b .session)
@@ -77,7 +66,7 @@ unfolding reached-counts leftOf thirty desk if_then_else_
 left-due memory b n l tells = tells .is (reached-counts memory (l .reached)) ∙ ap (λ (x : P.Bench). toTake (x .session)) (l .is)
 
 -- behind a set one less is left to be taken
-due-less : (b : P.Bench) (s : P.Session) → Led width b → b .session ≡ s → toTake (P.takeSet enough b .next .session) ≡ toTake s - 1
+pub due-less : (b : P.Bench) (s : P.Session) → Led width b → b .session ≡ s → toTake (P.takeSet enough b .next .session) ≡ toTake s - 1
 unfolding toTake P.takeSet P.taken P.outcome P.afterSet enough
 due-less b P.idle led e = rw e
 due-less b (P.collecting name ls) led e = rw e

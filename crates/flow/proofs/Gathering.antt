@@ -10,14 +10,14 @@ use lib.Dec.{eqb}
 use mir.Syntax.{w64}
 use mir.Val.{Fits}
 use borrow.Author.Tests.{eqb-true, eqb-false, eq-eqb, ne-eqb}
-use Rattle.paper.specs.Byte.{if_then_else_, between, every}
+use Rattle.paper.specs.Byte.{between, every}
 use Rattle.paper.specs.Command.{isShown}
 use Rattle.paper.specs.Line.{lf, kept}
 use Rattle.paper.specs.Bench as P
 use Rattle.paper.specs.Program.{enough}
 use Rattle.paper.proofs.Law.{if-true, if-false}
 use Rattle.paper.proofs.Test.{either, clash}
-use Rattle.paper.proofs.Dropped.{kept-stays, stays-kept}
+use Rattle.paper.proofs.Dropped.{kept-append, kept-stays, stays-kept}
 use Rattle.paper.proofs.Long.{hear-first}
 use Rattle.command.specs.View.{width}
 use Rattle.text.specs.Place.{from}
@@ -26,7 +26,6 @@ use Rattle.line.proofs.Control.{clear-take, clear-shown}
 use Rattle.form.specs.Walk.{firstLine}
 use Rattle.listen.specs.Waiting.{Waits, Waiting, Comes}
 use Rattle.flow.specs.Fill.{Clear, Gathered, lineBy}
-use Rattle.flow.proofs.Cutting.{kept-append}
 
 -- LF is not shown
 shown-inside : (b : ℕ) → isShown b ≡ true → eqb b lf ≡ false

@@ -2,36 +2,29 @@
 -- thirty, of which no other changes.
 use Prim.Native.Nat.{ℕ, suc, _+_, _-_, _*_, _≤_, _<_}
 use mathlib.Core.Path.{_≡_, refl, sym, _∙_, ap}
-use mathlib.Core.Bool.{true, false}
 use mathlib.Core.List.{List, [], _∷_, _++_, append-assoc}
 use native.Mathlib.Omega.{arith}
 use native.Mathlib.Nat.{suc-mul}
 use lib.ListN.{length, take, drop, getD, length-append, length-drop}
 use lib.Seq.{drop-drop, drop-append-le, take-append-le, getD-take, getD-drop}
-use lib.Dec.{leb, eqb}
+use lib.Dec.{leb}
 use borrow.Author.Tests.{eq-eqb}
 use borrow.Rule.Slice.PartMut.{same-len-mid}
 use Rattle.paper.specs.Form.{Form}
 use Rattle.paper.specs.Bench as P
 use Rattle.paper.specs.Set.{setOf}
-use Rattle.paper.proofs.Law.{by-test, if-true, if-false}
+use Rattle.paper.specs.Class.{seat}
+use Rattle.paper.proofs.Law.{by-test}
+use Rattle.paper.proofs.Invariant.{take-forms}
+use Rattle.paper.proofs.Apart.{seat-own, seat-other}
 use Rattle.command.specs.declared.Answer.{Answer}
 use Rattle.session.specs.Memory.{Session, Shelf, packedSession, packedShelf}
 use Rattle.seats.specs.Numbers.{heldIn}
 use Rattle.seats.specs.Seats.{flat, numbersOf}
-use Rattle.seats.proofs.Flat.{flat-length-within, flat-at-within, flat-write-within}
+use Rattle.seats.proofs.Flat.{flat-length, flat-at, flat-write}
 use Rattle.seats.proofs.Parted.{held-length}
 use Rattle.call.specs.Call.{Memory, memoryOf, laid, packedBench, Reached, HearsLine, TakesSet}
-use Rattle.lend.specs.Laid.{sessionAt, numbered, laidOut, Seated, Sits, SeatHears, SeatTakes}
-
--- the session that was changed, and any other
-pub session-own : (t : ℕ) (x : Session) (f : ℕ → Session) (k : ℕ) → eqb k t ≡ true → sessionAt t x f k ≡ x
-unfolding sessionAt
-session-own t x f k e = if-true _ _ _ e
-
-pub session-other : (t : ℕ) (x : Session) (f : ℕ → Session) (k : ℕ) → eqb k t ≡ false → sessionAt t x f k ≡ f k
-unfolding sessionAt
-session-other t x f k e = if-false _ _ _ e
+use Rattle.lend.specs.Laid.{numbered, laidOut, Seated, Sits, SeatHears, SeatTakes}
 
 -- the part of tablet t in parts of a width, as it is lent
 abbrev pub lentAt : (w t : ℕ) → List ℕ → List ℕ
@@ -49,23 +42,23 @@ back-length w t xs new e = same-len-mid (t * w) (t * w + w - t * w) xs new e
 module _ (of : Session → List ℕ) (w : ℕ) (f : ℕ → Session) (len : (k : ℕ) → k < 30 → length (of (f k)) ≡ w) (t : ℕ) (l : t < 30) (xs : List ℕ) (e : xs ≡ flat (λ k. of (f k)) 0 30) where
   -- how long they are together
   pub parts-length : length xs ≡ 30 * w
-  parts-length = ap length e ∙ flat-length-within (λ k. of (f k)) w 0 30 (λ k m n. len k n)
+  parts-length = ap length e ∙ flat-length (λ k. of (f k)) w 0 30 (λ k m n. len k n)
 
   -- a tablet's is its session's
   pub part-own : lentAt w t xs ≡ of (f t)
   part-own =
       let here : 0 + t ≡ t = omega arith in
       let size : t * w + w - t * w ≡ w = omega arith in
-      rw (size, e) (rw here at (flat-at-within (λ k. of (f k)) w 0 30 t (λ k m n. len k n) l))
+      rw (size, e) (rw here at (flat-at (λ k. of (f k)) w 0 30 t (λ k m n. len k n) l))
 
   -- when it comes back, that session has changed alone
-  pub part-back : (x : Session) (new : List ℕ) → new ≡ of x → backAt w t xs new ≡ flat (λ k. of (sessionAt t x f k)) 0 30
+  pub part-back : (x : Session) (new : List ℕ) → new ≡ of x → backAt w t xs new ≡ flat (λ k. of (seat t x f k)) 0 30
   part-back x new g =
       let here : 0 + t ≡ t = omega arith in
       let behind : t * w + (t * w + w - t * w) ≡ suc t * w = rw (suc-mul t w) (omega arith) in
-      let own : of (sessionAt t x f t) ≡ of x = ap of (session-own t x f t (eq-eqb t t refl)) in
+      let own : of (seat t x f t) ≡ of x = ap of (seat-own t x f t (eq-eqb t t refl)) in
       rw (drop-drop (t * w + w - t * w) (t * w) xs, behind, g, e)
-      (sym (rw (here, own) at (flat-write-within (λ k. of (f k)) (λ k. of (sessionAt t x f k)) w 0 30 t (λ k m n. len k n) (λ k n. ap of (session-other t x f k (rw here at n))) l)))
+      (sym (rw (here, own) at (flat-write (λ k. of (f k)) (λ k. of (seat t x f k)) w 0 30 t (λ k m n. len k n) (λ k n. ap of (seat-other t x f k (rw here at n))) l)))
 
 -- parts before something else: what is lent is lent of the parts, and what comes back stands before it
 lent-before : (w t : ℕ) (xs ys : List ℕ) → t * w + w ≤ length xs → lentAt w t (xs ++ ys) ≡ lentAt w t xs
@@ -155,18 +148,18 @@ module _ (m : Memory) (t : ℕ) (fs : List Form) (f : ℕ → Session) (n : ℕ)
   lent-reached = record { paper = record { forms = fs; session = st }; number = n; sane = s .sane; opens = s .opens; is = lent-is }
 
   -- what comes back is that of the thirty, of which one session has changed
-  back-is : (y : Memory) (shelf : Shelf) (x : Session) → y ≡ laid shelf x → back m t y ≡ laidOut shelf (sessionAt t x f) last printing
+  back-is : (y : Memory) (shelf : Shelf) (x : Session) → y ≡ laid shelf x → back m t y ≡ laidOut shelf (seat t x f) last printing
   unfolding laid laidOut numbered numbersOf
   back-is y shelf x e =
-      let name : backAt 16 t (m .name) (y .name) ≡ flat (λ k. sessionAt t x f k .name) 0 30 =
+      let name : backAt 16 t (m .name) (y .name) ≡ flat (λ k. seat t x f k .name) 0 30 =
       part-back (λ x. x .name) 16 f (λ k l. s .sized k l .name) t (s .below) (m .name) seated-name x (y .name) (ap (λ (x : Memory). x .name) e) in
-      let text : backAt 1024 t (m .text) (y .text) ≡ flat (λ k. sessionAt t x f k .text) 0 30 =
+      let text : backAt 1024 t (m .text) (y .text) ≡ flat (λ k. seat t x f k .text) 0 30 =
       part-back (λ x. x .text) 1024 f (λ k l. s .sized k l .text) t (s .below) (m .text) seated-text x (y .text) (ap (λ (x : Memory). x .text) e) in
-      let answers : backAt 1700 t (m .answers) (y .answers) ≡ flat (λ k. sessionAt t x f k .answers) 0 30 =
+      let answers : backAt 1700 t (m .answers) (y .answers) ≡ flat (λ k. seat t x f k .answers) 0 30 =
       part-back (λ x. x .answers) 1700 f (λ k l. s .sized k l .answers) t (s .below) (m .answers) seated-answers x (y .answers) (ap (λ (x : Memory). x .answers) e) in
-      let values : backAt 104 t (m .values) (y .values) ≡ flat (λ k. sessionAt t x f k .values) 0 30 =
+      let values : backAt 104 t (m .values) (y .values) ≡ flat (λ k. seat t x f k .values) 0 30 =
       part-back (λ x. x .values) 104 f (λ k l. s .sized k l .values) t (s .below) (m .values) seated-values x (y .values) (ap (λ (x : Memory). x .values) e) in
-      let held : backAt 10 t (m .held) (y .held) ≡ flat (λ k. heldIn (sessionAt t x f k .held)) 0 30 ++ (last ∷ printing ∷ []) =
+      let held : backAt 10 t (m .held) (y .held) ≡ flat (λ k. heldIn (seat t x f k .held)) 0 30 ++ (last ∷ printing ∷ []) =
       ap (λ xs. backAt 10 t xs (y .held)) seated-held
       ∙ back-before 10 t numbers (last ∷ printing ∷ []) (y .held) (omega (arith, numbers-whole, s .below))
       ∙ ap (λ xs. xs ++ (last ∷ printing ∷ []))
@@ -221,18 +214,6 @@ sits-inside m t k =
     held-length-of (m .held) (numbers m t _ f _ _ _ _ s) (k .last ∷ k .printing ∷ []) (seated-held m t _ f _ _ _ _ s) (numbers-whole m t _ f _ _ _ _ s) in
     record { name = omega arith; text = omega arith; answers = omega arith; values = omega arith; held = omega arith }
 
--- a take leaves the forms
-take-forms : (room : ℕ) (fs : List Form) (st : P.Session) → P.takeSet room (record { forms = fs; session = st }) .next .forms ≡ fs
-unfolding P.takeSet P.taken P.outcome P.replied
-take-forms room fs P.idle = refl
-take-forms room fs (P.collecting name ls) = refl
-take-forms room fs P.spoiled = refl
-take-forms room fs (P.opened ls) = refl
-take-forms room fs (P.answering ls given) = refl
-take-forms room fs (P.ready ls given) = refl
-take-forms room fs (P.printing ls given k c i) =
-    by-test (λ (o : P.Outcome). o .next .forms ≡ fs) (leb (length (setOf ls given c i)) room) _ _ (λ y. refl) (λ n. refl)
-
 module _ (m : Memory) (t : ℕ) (next : Memory) where
   -- a line at its seat
   pub seat-hears : (s old new : List ℕ) (r : Answer) → HearsLine (lent m t) s old next new r → SeatHears m t s old (back m t next) new r
@@ -251,5 +232,5 @@ module _ (m : Memory) (t : ℕ) (next : Memory) where
         meets = λ fs f n st last printing k. h .meets (lent-reached m t fs f n st last printing k);
         leaves = λ fs f n st last printing k.
             back-is m t fs f n st last printing k next _ _ (h .leaves (lent-reached m t fs f n st last printing k))
-            ∙ ap (λ gs. laidOut (packedShelf gs) (sessionAt t (packedSession gs n (P.takeSet (length old) (record { forms = fs; session = st }) .next .session)) f) last printing) (take-forms (length old) fs st);
+            ∙ ap (λ gs. laidOut (packedShelf gs) (seat t (packedSession gs n (P.takeSet (length old) (record { forms = fs; session = st }) .next .session)) f) last printing) (take-forms (length old) fs st);
       }

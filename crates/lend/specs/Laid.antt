@@ -1,15 +1,14 @@
 -- Thirty sessions beside one store in memory, and what a call of one of them promises: what it promises of that session alone, and
 -- that every other stays.
-use Prim.Native.Nat.{ℕ, _+_, _<_}
+use Prim.Native.Nat.{ℕ, _<_}
 use mathlib.Core.Path.{_≡_}
 use mathlib.Core.List.{List, [], _∷_, _++_}
 use lib.ListN.{length}
-use lib.Dec.{eqb}
-use Rattle.paper.specs.Byte.{if_then_else_}
 use Rattle.paper.specs.Line.{kept}
 use Rattle.paper.specs.Form.{Form}
 use Rattle.paper.specs.Bench as P
 use Rattle.paper.specs.State.{Sane}
+use Rattle.paper.specs.Class.{seat}
 use Rattle.command.specs.View.{width}
 use Rattle.command.specs.Answer.{Meets}
 use Rattle.command.specs.declared.Answer.{Answer}
@@ -18,10 +17,6 @@ use Rattle.session.specs.Outcome.{afterLine}
 use Rattle.seats.specs.Numbers.{filedIn}
 use Rattle.seats.specs.Seats.{flat, numbersOf}
 use Rattle.call.specs.Call.{Memory}
-
--- one session changed, every other as it was
-unfoldable pub sessionAt : ℕ → Session → (ℕ → Session) → ℕ → Session
-sessionAt t x f k = if eqb k t then x else f k
 
 -- the numbers of thirty sessions, and behind them the tablet last served and how many print
 unfoldable pub numbered : (ℕ → Session) → (last printing : ℕ) → List ℕ
@@ -76,11 +71,11 @@ pub record SeatHears (self : Memory) (t : ℕ) (s old : List ℕ) (next : Memory
       → Meets (P.hear width (length old) (record { forms = fs; session = st }) s .answer) old new r
   pub leaves : (fs : List Form) (f : ℕ → Session) (n : ℕ) (st : P.Session) (last printing : ℕ) → Seated self t fs f n st last printing
       → next ≡ laidOut (packedShelf (P.hear width (length old) (record { forms = fs; session = st }) s .next .forms))
-      (sessionAt t (packedSession (P.hear width (length old) (record { forms = fs; session = st }) s .next .forms) (afterLine n fs st (kept s)) (P.hear width (length old) (record { forms = fs; session = st }) s .next .session)) f) last printing
+      (seat t (packedSession (P.hear width (length old) (record { forms = fs; session = st }) s .next .forms) (afterLine n fs st (kept s)) (P.hear width (length old) (record { forms = fs; session = st }) s .next .session)) f) last printing
 
 -- and so is a set
 pub record SeatTakes (self : Memory) (t : ℕ) (old : List ℕ) (next : Memory) (new : List ℕ) (r : Answer) : Type 0 where
   pub meets : (fs : List Form) (f : ℕ → Session) (n : ℕ) (st : P.Session) (last printing : ℕ) → Seated self t fs f n st last printing
       → Meets (P.takeSet (length old) (record { forms = fs; session = st }) .answer) old new r
   pub leaves : (fs : List Form) (f : ℕ → Session) (n : ℕ) (st : P.Session) (last printing : ℕ) → Seated self t fs f n st last printing
-      → next ≡ laidOut (packedShelf fs) (sessionAt t (packedSession fs n (P.takeSet (length old) (record { forms = fs; session = st }) .next .session)) f) last printing
+      → next ≡ laidOut (packedShelf fs) (seat t (packedSession fs n (P.takeSet (length old) (record { forms = fs; session = st }) .next .session)) f) last printing

@@ -1,18 +1,18 @@
 -- Control bytes: the code's walk over the bytes of a text, until one is below 20H or none is left.
 use Prim.Native.Nat.{ℕ, suc, _+_, _≤_, _<_}
 use mathlib.Core.Path.{_≡_, refl, sym, _∙_}
-use mathlib.Core.Bool.{Bool, true, false, or-true}
-use mathlib.Core.List.{List, [], _∷_, _++_}
+use mathlib.Core.Bool.{Bool, true, false}
+use mathlib.Core.List.{List, [], _∷_}
 use native.Mathlib.Omega.{arith}
 use native.Mathlib.Numerals.{add-one}
 use lib.ListN.{length, take, drop, getD, drop-of-length-le, take-append-drop}
 use lib.Seq.{drop-cons, take-length}
-use lib.Dec.{ltb}
 use borrow.Author.Tests.{le-leb, lt-leb, lt-ltb}
-use Rattle.paper.specs.Byte.{between, every, any, if_then_else_}
+use Rattle.paper.specs.Byte.{between, every, if_then_else_}
 use Rattle.paper.specs.Line.{control}
 use Rattle.paper.specs.Command.{isShown}
 use Rattle.paper.proofs.Law.{and-both, by-test}
+use Rattle.paper.proofs.Text.{control-behind}
 use Rattle.text.specs.Place.{from}
 use Rattle.line.specs.Shown.{clearPart}
 
@@ -66,12 +66,6 @@ clear-whole s r e w =
     let all : length (clearPart s) ≡ length s = omega (arith, e, w) in
     let same : clearPart s ≡ s = sym (clear-take s) ∙ rw all (take-length s) in
     rw same at (clear-shown s)
-
--- a byte below 20H behind others is a control byte of the whole
-control-behind : (x : List ℕ) (b : ℕ) (y : List ℕ) → ltb b 0x20 ≡ true → control (x ++ (b ∷ y)) ≡ true
-unfolding control any
-control-behind [] b y e = rw e
-control-behind (c ∷ x) b y e = rw (control-behind x b y e) (or-true (ltb c 0x20))
 
 -- a byte below 20H makes the line one with a control byte
 pub control-here : (s : List ℕ) (i : ℕ) → i < length s → getD s i 0 < 32 → control s ≡ true

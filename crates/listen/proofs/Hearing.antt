@@ -7,12 +7,11 @@ use native.Mathlib.Omega.{arith}
 use lib.ListN.{length, take, length-take}
 use lib.Seq.{take-all}
 use lib.Dec.{eqb}
-use borrow.Author.Tests.{lt-ltb, le-ltb, ltb-true, ltb-false, eqb-true, eqb-false, ne-eqb}
+use borrow.Author.Tests.{le-ltb, eqb-true, eqb-false, ne-eqb}
 use Rattle.paper.specs.Byte.{every, if_then_else_}
 use Rattle.paper.specs.Command.{isShown}
 use Rattle.paper.specs.Line.{kept, long, control}
 use Rattle.paper.specs.Form.{Form}
-use Rattle.paper.specs.Read.{read}
 use Rattle.paper.specs.Bench as P
 use Rattle.paper.proofs.Law.{if-true, if-false}
 use Rattle.paper.proofs.Test.{either}

@@ -28,15 +28,14 @@ use Rattle.command.proofs.Command as Tag
 use Rattle.line.specs.Given.{IsRead}
 use Rattle.store.specs.declared.Filed.{Filed}
 use Rattle.text.specs.declared.read.Span.{Span}
-use Rattle.session.specs.Memory.{Session, Shelf, sessionOf, shelfOf, drafts, drafting, holds, holding, packedSession, packedShelf, ifIdle, afterFiling, afterCommand}
-use Rattle.session.specs.Outcome.{At, Kept, Does, Obeys, Heeds, Minds, Hears, Refuses, Keeps, Named, Starred, NotAnswering, obey, afterReading, afterLine}
+use Rattle.session.specs.Memory.{Session, Shelf, sessionOf, shelfOf, drafts, drafting, holds, holding, packedSession, afterCommand}
+use Rattle.session.specs.Outcome.{At, Does, Obeys, Minds, Hears, Refuses, Keeps, Named, Starred, NotAnswering, obey, afterReading, afterLine}
 use Rattle.session.specs.declared.change.Change.{Change}
 use Rattle.session.specs.declared.state.Held.{Held}
 use Rattle.session.specs.declared.state.Turn.{Turn}
-use Rattle.session.specs.declared.state.Mode.{Mode}
 use Rattle.session.specs.declared.state.Mode.the-variants as M
 use Rattle.session.proofs.state.Mode as State
-use Rattle.session.proofs.Held.{Tagged, wrong, seen, does-done, does-refuse}
+use Rattle.session.proofs.Held.{Tagged, wrong, does-done, does-refuse}
 
 -- `N` goes to Idle from every state in which no form is collected
 news : (session : Session) → Tagged (0 ∷ 3 ∷ 4 ∷ 5 ∷ 6 ∷ []) session → (room : ℕ) (fs : List Form) (n : ℕ) (st : P.Session) → session ≡ packedSession fs n st → obey room fs st C.new ≡ P.done fs P.idle

@@ -1,14 +1,12 @@
 -- The loop that keeps bytes: what it has kept and what is still to come are the line.
-use Prim.Native.Nat.{ℕ, suc, _+_, _-_, _≤_, _<_}
+use Prim.Native.Nat.{ℕ, suc, _+_, _≤_, _<_}
 use mathlib.Core.Path.{_≡_, refl, sym, _∙_, ap}
-use mathlib.Core.Bool.{Bool, true, false}
+use mathlib.Core.Bool.{true, false}
 use mathlib.Core.List.{List, [], _∷_, _++_, append-assoc, append-nil}
 use native.Mathlib.Omega.{arith}
 use lib.ListN.{length, take, drop, getD, set, length-append, length-take, length-set, drop-of-length-le}
-use lib.Seq.{take-all, drop-cons, take-append-le, take-append-seam, take-suc-set, length-take-le, drop-drop, drop-set-lt}
-use lib.Dec.{eqb}
-use borrow.Author.Tests.{eq-eqb, ne-eqb}
-use Rattle.paper.specs.Byte.{if_then_else_}
+use lib.Seq.{take-all, drop-cons, take-append-le, take-suc-set, drop-drop, drop-set-lt}
+use borrow.Author.Tests.{ne-eqb}
 use Rattle.paper.specs.Line.{isDropped, kept}
 use Rattle.paper.proofs.Law.{if-true, if-false}
 use Rattle.listen.specs.Waiting.{Waits, Waiting, Comes}

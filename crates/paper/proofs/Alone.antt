@@ -5,14 +5,13 @@ use mathlib.Core.Bool.{true, false, true≢false}
 use mathlib.Core.List.{List, [], _∷_, map}
 use mathlib.Core.Option.{Option, none, some}
 use Prim.Native.Nat.{ℕ, _<_}
-use native.Mathlib.Omega.{arith}
 use lib.Dec.{eqb}
 use borrow.Author.Tests.{eqb-true, lt-ltb}
 use Rattle.paper.specs.Byte.{if_then_else_}
 use Rattle.paper.specs.Command.{Filing}
 use Rattle.paper.specs.Refusal.{notPrinting, refused}
 use Rattle.paper.specs.Form.{Form, isSome}
-use Rattle.paper.specs.Bench.{Session, idle, collecting, spoiled, opened, answering, ready, printing, Bench, begin, Outcome, outcome, taken, takeSet}
+use Rattle.paper.specs.Bench.{Session, idle, collecting, spoiled, opened, answering, ready, printing, Bench, Outcome, outcome, taken, takeSet}
 use Rattle.paper.specs.Calls.{Call, line, taking, called, answersTo, afterCalls}
 use Rattle.paper.specs.Class.{Tablet, Class, thirty, beginClass, desk, collects, prints, openLines, holdsForm, starts, filingOf, barred, hearUnless, Reply, reply, denied, hearOf, hearFrom, turn, serve, takeNext, replyTo, repliesTo, classAfter}
 use Rattle.paper.specs.Diary.{requestOf}
@@ -105,12 +104,3 @@ alone-leaves width t c (x ∷ xs) a =
 pub begin-alone : (t : ℕ) → t < 30 → Alone t beginClass
 unfolding beginClass
 begin-alone t l = record { within = l; rest = λ k n. refl }
-
--- the program of 01 sends as tablet 0: from the start it is served as by the bench of 01
-pub begin-answers : (width : ℕ) (xs : List Call) → repliesTo width beginClass (map (requestOf 0) xs) ≡ answersTo width begin xs
-unfolding beginClass begin desk
-begin-answers width xs = alone-answers width 0 beginClass xs (begin-alone 0 (omega arith))
-
-pub begin-leaves : (width : ℕ) (xs : List Call) → desk (classAfter width beginClass (map (requestOf 0) xs)) 0 ≡ afterCalls width begin xs
-unfolding beginClass begin desk
-begin-leaves width xs = alone-leaves width 0 beginClass xs (begin-alone 0 (omega arith))

@@ -189,11 +189,7 @@ module _ (width t room : ℕ) (c : Class) (s name : List ℕ) (ls : List FormLin
   unfolding desk
   opens = recalls width room c t s name ls l (o .free) (o .stored) reads
 
-  -- DEMAND 3 among others: the `FR` is accepted
-  pub recall-among : hearFrom width room c t s .answer ≡ accepted []
-  recall-among = opens .0
-
-  -- and whatever is sent by whom, if the tablet's own part of it does the order, that comes out
+  -- DEMAND 3 among others: whatever is sent by whom, if the tablet's own part of it does the order, that comes out
   pub order-among : (qs : List Request) (d : Does width (openedWith ls (asked ls)) (needs ls given n copies) (diary width t recalled-class qs)) → Comes-out width ls given n copies d
   order-among qs d =
       let desk′ = desk-sane width c t sane l in

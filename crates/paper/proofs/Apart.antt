@@ -2,7 +2,7 @@
 -- 01 with nothing stored: so its diary is told by the session it begins with and by its own calls.
 use mathlib.Core.Path.{_≡_, refl, sym, ap, _∙_}
 use mathlib.Core.Bool.{true, false, false≢true}
-use mathlib.Core.List.{List, [], _∷_, map}
+use mathlib.Core.List.{List, [], _∷_, _++_, map}
 use mathlib.Core.Option.{Option, none, some}
 use Prim.Native.Nat.{ℕ, _<_}
 use lib.Dec.{ltb, eqb}
@@ -15,7 +15,7 @@ use Rattle.paper.specs.Read.{command, read}
 use Rattle.paper.specs.Form.{asked, find}
 use Rattle.paper.specs.Bench.{Session, idle, Outcome, outcome, done, openedWith, hear, takeSet}
 use Rattle.paper.specs.Calls.{Call, line, taking, called}
-use Rattle.paper.specs.Class.{Tablet, Class, thirty, desk, atRest, openLines, holdsForm, filingRead, hearUnless, filingOf, tabletOf, renamed, seat, Reply, reply, denied, hearOf, hearFrom, turn, serve, takeNext, Request, sends, fetches, replyTo}
+use Rattle.paper.specs.Class.{Tablet, Class, thirty, desk, atRest, openLines, holdsForm, filingRead, barred, hearUnless, filingOf, tabletOf, renamed, seat, Reply, reply, denied, hearOf, hearFrom, turn, serve, takeNext, Request, sends, fetches, replyTo, classAfter}
 use Rattle.paper.specs.Diary.{callOf, Entry, isFor, diary, bare, led}
 use Rattle.paper.proofs.Law.{if-true, if-false, by-test}
 use Rattle.paper.proofs.Test.{either}
@@ -23,15 +23,21 @@ use Rattle.paper.proofs.Aside.{Aside, heard-aside, taken-aside, holds-a
 use Rattle.paper.proofs.Others.{barred-none, barred-recall, busy-files}
 use Rattle.paper.proofs.Store.{recall-opens}
 
--- the tablet that was changed
-pub seat-own : (t : ℕ) (x : Tablet) (f : ℕ → Tablet) (k : ℕ) → eqb k t ≡ true → seat t x f k ≡ x
+-- what stands at the number that was changed
+pub seat-own : {A : Type 0} (t : ℕ) (x : A) (f : ℕ → A) (k : ℕ) → eqb k t ≡ true → seat t x f k ≡ x
 unfolding seat
 seat-own t x f k e = if-true _ _ _ e
 
--- any other
-pub seat-other : (t : ℕ) (x : Tablet) (f : ℕ → Tablet) (k : ℕ) → eqb k t ≡ false → seat t x f k ≡ f k
+-- and at any other
+pub seat-other : {A : Type 0} (t : ℕ) (x : A) (f : ℕ → A) (k : ℕ) → eqb k t ≡ false → seat t x f k ≡ f k
 unfolding seat
 seat-other t x f k e = if-false _ _ _ e
+
+-- calls one behind the other
+pub calls-append : (width : ℕ) (c : Class) (qs rs : List Request) → classAfter width c (qs ++ rs) ≡ classAfter width (classAfter width c qs) rs
+unfolding classAfter
+calls-append width c [] rs = refl
+calls-append width c (q ∷ qs) rs = calls-append width (replyTo width c q .next) qs rs
 
 -- the answer of a reply, and the session of its tablet
 pub reply-answer : (c : Class) (t last : ℕ) (f : Option Filing) (o : Outcome) → reply c t last f o .answer ≡ o .answer
@@ -48,6 +54,12 @@ unfolding reply tabletOf renamed
 reply-form c t last o h =
     let here = seat-own t (tabletOf (o .next .session) (c .tablet t .form)) (c .tablet) t (eq-eqb t t refl) in
     ap (λ (x : Tablet). x .form) here ∙ if-true _ _ _ (sym (ap (λ (x : Tablet). holdsForm (x .session)) here) ∙ h)
+
+-- where nothing is forbidden the desk decides
+pub free-reply : (width : ℕ) (c : Class) (t : ℕ) → t < 30 → (s : List ℕ) (room : ℕ) → barred c t (filingOf width (c .tablet t .session) s) ≡ none
+    → hearFrom width room c t s ≡ reply c t (c .last) (filingOf width (c .tablet t .session) s) (hear width room (record { forms = c .forms; session = c .tablet t .session }) s)
+unfolding hearFrom hearOf hearUnless desk thirty if_then_else_
+free-reply width c t l s room e = rw (lt-ltb t 30 l, e) refl
 
 -- a call that is not for a tablet leaves it
 pub leaves-others : (width t : ℕ) (c : Class) (q : Request) → isFor t (replyTo width c q .whose) ≡ false → replyTo width c q .next .tablet t ≡ c .tablet t
@@ -128,11 +140,6 @@ own-same width st (x ∷ es) (d ∷ ds) p q e =
     let told : x .answer ≡ d .answer = p .1 ∙ ap (λ k. called width (bare st) k .answer) first ∙ sym (q .1) in
     let behind = own-same width (led width st (x .call)) es ds (p .2) (rw (← first) at (q .2)) others′ in
     λ i. record { call = first i; answer = told i } ∷ behind i
-
--- so with the same calls of its own a tablet has the same diary in any two classes
-pub diary-same : (width t u : ℕ) (c d : Class) (qs rs : List Request) → c .tablet t .session ≡ d .tablet u .session → map (λ (e : Entry). e .call) (diary width t c qs) ≡ map (λ (e : Entry). e .call) (diary width u d rs) → diary width t c qs ≡ diary width u d rs
-diary-same width t u c d qs rs e k =
-    own-same width (c .tablet t .session) _ _ (apart width t c qs) (rw (← e) at (apart width u d rs)) k
 
 -- `FR` of a stored form by a tablet that is Idle
 pub recalls : (width room : ℕ) (c : Class) (t : ℕ) (s name : List ℕ) (ls : List FormLine) → t < 30 → c .tablet t .session ≡ idle → find name (c .forms) ≡ some ls → read width (kept s) ≡ command (file (recall name))

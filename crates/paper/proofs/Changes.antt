@@ -8,12 +8,12 @@ use lib.ListN.{length, drop}
 use lib.Dec.{leb}
 use Rattle.paper.specs.Byte.{if_then_else_}
 use Rattle.paper.specs.Line.{kept, long, control}
-use Rattle.paper.specs.Command.{Define, FormLine, Filing, start, finish, inform, recall, delete, Command, empty, new, keep, file, ask, print}
-use Rattle.paper.specs.Refusal.{Refusal, overfull, overrun, unfit, tooLong, controlByte}
+use Rattle.paper.specs.Command.{Define, FormLine, Filing, start, finish, inform, recall, delete, empty, new, keep, file, ask, print}
+use Rattle.paper.specs.Refusal.{Refusal, tooLong, controlByte}
 use Rattle.paper.specs.Read.{Reading, command, unread, read}
 use Rattle.paper.specs.Form.{Form, isSome, find, asked, stored, hasRoom, unsoundAt, withinLimits, listing}
 use Rattle.paper.specs.Set.{fits, allHold}
-use Rattle.paper.specs.Bench.{Session, idle, collecting, spoiled, opened, answering, ready, printing, Bench, Outcome, outcome, refuse, done, replied, deleted, recalled, filed, inIdle, checked, collected, onFinish, inCollecting, inSpoiled, inOpened, inReady, inPrinting, answered, inAnswering, obeyed, heard, hear}
+use Rattle.paper.specs.Bench.{Session, idle, collecting, spoiled, opened, answering, ready, printing, Outcome, outcome, refuse, done, replied, deleted, recalled, filed, inIdle, checked, collected, onFinish, inCollecting, inSpoiled, inOpened, inReady, inPrinting, answered, inAnswering, obeyed, heard, hear}
 use Rattle.paper.specs.Class.{atRest, openLines, holdsForm, filingRead, filingOf}
 
 -- the stored forms and the session behind a line

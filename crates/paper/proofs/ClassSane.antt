@@ -50,7 +50,7 @@ tablet-named : (st : Session) (form : List ℕ) → holdsForm st ≡ true → ta
 unfolding tabletOf
 tablet-named st form h = if-true _ _ _ h
 
-tablet-nameless : (st : Session) (form : List ℕ) → holdsForm st ≡ false → tabletOf st form .form ≡ []
+pub tablet-nameless : (st : Session) (form : List ℕ) → holdsForm st ≡ false → tabletOf st form .form ≡ []
 unfolding tabletOf
 tablet-nameless st form h = if-false _ _ _ h
 

@@ -1,17 +1,16 @@
 -- Tablets by their number. None in Printing is 16, and a single one that was served last is served again; a call changes a count by
--- its own tablet alone; and another tablet passes a test if more are counted than one's own.
-use mathlib.Core.Path.{_≡_, refl, sym, ap, _∙_}
-use mathlib.Core.Bool.{Bool, true, false, _&&_, _||_, not}
+-- its own tablet alone.
+use mathlib.Core.Path.{_≡_, refl, ap, _∙_}
+use mathlib.Core.Bool.{Bool, true, false}
 use mathlib.Core.Option.{Option, none, some}
 use Prim.Native.Nat.{ℕ, zero, suc, _+_, _≤_, _<_}
 use native.Mathlib.Omega.{arith}
 use lib.Dec.{eqb, ltb}
-use borrow.Author.Tests.{eqb-true, eqb-false, ne-eqb, ltb-true, ltb-false, lt-ltb, le-ltb}
+use borrow.Author.Tests.{eqb-true, eqb-false, ne-eqb, ltb-true, ltb-false}
 use Rattle.paper.specs.Byte.{if_then_else_}
 use Rattle.paper.specs.Command.{Filing}
 use Rattle.paper.specs.Bench.{Session, Outcome}
-use Rattle.paper.specs.Class.{Tablet, Class, thirty, prints, anotherBelow, another, seat, tabletOf, reply, turn, countBelow, printers}
-use Rattle.paper.proofs.Law.{if-true}
+use Rattle.paper.specs.Class.{Tablet, Class, thirty, prints, seat, tabletOf, reply, turn, countBelow, printers}
 use Rattle.paper.proofs.Test.{either, clash}
 use Rattle.paper.proofs.Apart.{seat-own, seat-other}
 use Rattle.paper.proofs.Turn.{turn-comes, turn-passing, first-none}
@@ -109,56 +108,3 @@ count-seat (suc n) test t x f l =
 pub reply-count : (test : Session → Bool) (c : Class) (t last : ℕ) (f : Option Filing) (o : Outcome) → t < 30 → countBelow 30 (λ k. test (reply c t last f o .next .tablet k .session)) + oneIf (test (c .tablet t .session)) ≡ countBelow 30 (λ k. test (c .tablet k .session)) + oneIf (test (o .next .session))
 unfolding reply tabletOf
 reply-count test c t last f o l = count-seat 30 (λ x. test (x .session)) t _ (c .tablet) l
-
--- one more is counted
-some-more : (b d : Bool) (n : ℕ) → d ≡ ltb 0 n → (b || d) ≡ ltb 0 (if b then suc n else n)
-unfolding if_then_else_
-some-more true d n e = sym (lt-ltb 0 (suc n) (omega arith))
-some-more false d n e = e
-
--- another tablet passes a test if some are counted but for one's own
-others-counted : (n : ℕ) (c : Class) (t : ℕ) (test : Tablet → Bool) → anotherBelow n c t test ≡ ltb 0 (countBelow n (λ k. not (eqb k t) && test (c .tablet k)))
-unfolding anotherBelow countBelow
-others-counted zero c t test = refl
-others-counted (suc n) c t test = some-more (not (eqb n t) && test (c .tablet n)) _ _ (others-counted n c t test)
-
--- the last of some is one's own
-own-last : (b : Bool) (m n : ℕ) → m ≡ n + 0 → (if b then suc m else m) ≡ n + oneIf b
-unfolding if_then_else_ oneIf
-own-last true m n e = omega arith
-own-last false m n e = e
-
--- or another's
-other-last : (b : Bool) (m n z : ℕ) → m ≡ n + z → (if b then suc m else m) ≡ (if b then suc n else n) + z
-unfolding if_then_else_
-other-last true m n z e = omega arith
-other-last false m n z e = e
-
--- all that are counted are the others and one's own
-others-and-own : (n : ℕ) (c : Class) (t : ℕ) (test : Tablet → Bool) → countBelow n (λ k. test (c .tablet k)) ≡ countBelow n (λ k. not (eqb k t) && test (c .tablet k)) + (if ltb t n then oneIf (test (c .tablet t)) else 0)
-unfolding countBelow if_then_else_
-others-and-own zero c t test = rw (le-ltb t 0 (omega arith))
-others-and-own (suc n) c t test =
-    let below = others-and-own n c t test in
-    either (eqb n t)
-    (λ y.
-    let here : n ≡ t = eqb-true n t y in
-    rw (y, lt-ltb t (suc n) (omega arith), ← here) (own-last (test (c .tablet n)) _ _ (rw (le-ltb t n (omega arith), ← here) at below)))
-    (λ m.
-    let apart = eqb-false n t m in
-    let same′ : ltb t (suc n) ≡ ltb t n = either (ltb t n) (λ y. let low = ltb-true t n y in lt-ltb t (suc n) (omega arith) ∙ sym y) (λ z. let high = ltb-false t n z in le-ltb t (suc n) (omega arith) ∙ sym z) in
-    rw (m, same′) (other-last (test (c .tablet n)) _ _ _ below))
-
--- so counts tell whether another passes: more are counted than one's own
-pub another-counted : (c : Class) (t : ℕ) (test : Tablet → Bool) → t < 30 → another c t test ≡ ltb (oneIf (test (c .tablet t))) (countBelow 30 (λ k. test (c .tablet k)))
-unfolding another thirty
-another-counted c t test l =
-    let all′ = others-and-own 30 c t test in
-    let own = if-true {A = ℕ} (ltb t 30) (oneIf (test (c .tablet t))) 0 (lt-ltb t 30 l) in
-    others-counted 30 c t test ∙ more (oneIf (test (c .tablet t))) _ _ (all′ ∙ ap (λ z. countBelow 30 (λ k. not (eqb k t) && test (c .tablet k)) + z) own)
-  where
-    more : (z m n : ℕ) → m ≡ n + z → ltb 0 n ≡ ltb z m
-    more z m n e =
-        either (ltb 0 n)
-        (λ y. let some′ = ltb-true 0 n y in y ∙ sym (lt-ltb z m (omega arith)))
-        (λ x. let few = ltb-false 0 n x in x ∙ sym (le-ltb z m (omega arith)))

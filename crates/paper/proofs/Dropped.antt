@@ -1,19 +1,28 @@
 -- Dropping CR and 1AH: a line without them stays whole, and dropping twice is dropping once.
-use Prim.Native.Nat.{ℕ, zero, suc, _<_}
+use Prim.Native.Nat.{ℕ, zero, suc}
 use mathlib.Core.Path.{_≡_, refl, sym, _∙_, ap}
-use mathlib.Core.Bool.{Bool, true, false, not, _&&_, _||_, false≢true}
-use mathlib.Core.List.{List, [], _∷_}
+use mathlib.Core.Bool.{Bool, true, false, not, _||_, false≢true}
+use mathlib.Core.List.{List, [], _∷_, _++_}
 use native.Mathlib.Omega.{arith}
 use lib.ListN.{take}
 use lib.Dec.{eqb, ltb}
 use borrow.Author.Tests.{eqb-true, lt-ltb}
-use Rattle.paper.specs.Byte.{if_then_else_, every, any}
+use Rattle.paper.specs.Byte.{every, any}
 use Rattle.paper.specs.Line.{isDropped, kept, control}
 use Rattle.paper.specs.Command.{Command, inRange}
 use Rattle.paper.specs.Write.{normal}
 use Rattle.paper.proofs.Law.{if-true, if-false, and-left, and-right}
 use Rattle.paper.proofs.Test.{either}
 use Rattle.paper.proofs.RoundTrip.{normal-control}
+
+-- what is kept of two texts
+pub kept-append : (s t : List ℕ) → kept (s ++ t) ≡ kept s ++ kept t
+unfolding kept
+kept-append [] t = refl
+kept-append (b ∷ s) t =
+    either (isDropped b)
+    (λ y. if-true _ _ _ y ∙ kept-append s t ∙ rw (if-true (isDropped b) (kept s) (b ∷ kept s) y))
+    (λ n. if-false _ _ _ n ∙ ap (λ x. b ∷ x) (kept-append s t) ∙ rw (if-false (isDropped b) (kept s) (b ∷ kept s) n))
 
 -- a byte that is not dropped
 unfoldable pub stays : ℕ → Bool

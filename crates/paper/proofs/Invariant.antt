@@ -420,3 +420,14 @@ hear-refused-keeps width room b s r e = ap (λ (n : Bench). n .forms) (hear-refu
 pub take-refused : (room : ℕ) (b : Bench) (r : Refusal) → takeSet room b .answer ≡ refused r → takeSet room b .next ≡ b
 unfolding takeSet
 take-refused room b r e = taken-good 0 room (b .forms) (b .session) .firm r e
+
+-- a take leaves the forms, in every state
+pub take-forms : (room : ℕ) (fs : List Form) (st : Session) → takeSet room (record { forms = fs; session = st }) .next .forms ≡ fs
+unfolding takeSet taken outcome replied
+take-forms room fs idle = refl
+take-forms room fs (collecting name ls) = refl
+take-forms room fs spoiled = refl
+take-forms room fs (opened ls) = refl
+take-forms room fs (answering ls given) = refl
+take-forms room fs (ready ls given) = refl
+take-forms room fs (printing ls given n c i) = by-test (λ (o : Outcome). o .next .forms ≡ fs) _ _ _ (λ y. refl) (λ m. refl)

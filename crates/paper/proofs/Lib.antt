@@ -37,3 +37,5 @@ pub mod AllOut
 pub mod HeldOpen
 pub mod ClassProgramCases
 pub mod Changes
+pub mod Freeing
+pub mod FreeingAmong

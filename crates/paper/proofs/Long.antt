@@ -1,17 +1,20 @@
 -- Of a line that is too long its first 257 bytes tell all that the bench says of it.
 use Prim.Native.Nat.{ℕ}
-use mathlib.Core.Path.{_≡_, sym, _∙_}
+use mathlib.Core.Path.{_≡_, refl, sym, _∙_}
 use mathlib.Core.Bool.{true, false}
 use mathlib.Core.List.{List}
+use mathlib.Core.Option.{Option, none, some}
 use native.Mathlib.Omega.{arith}
 use lib.ListN.{length, take, length-take}
 use lib.Seq.{take-all}
 use borrow.Author.Tests.{ltb-true, ltb-false, lt-ltb}
 use Rattle.paper.specs.Line.{kept, long}
 use Rattle.paper.specs.Command.{FormLine}
+use Rattle.paper.specs.Refusal.{Refusal}
 use Rattle.paper.specs.Form.{Form}
 use Rattle.paper.specs.Read.{read}
 use Rattle.paper.specs.Bench.{Session, idle, collecting, spoiled, opened, answering, ready, printing, Bench, inAnswering, heard, hear}
+use Rattle.paper.specs.Class.{Class, desk, filingOf, barred, hearUnless, hearOf, hearFrom}
 use Rattle.paper.proofs.Law.{if-true}
 use Rattle.paper.proofs.Test.{either}
 use Rattle.paper.proofs.Dropped.{kept-stays, stays-kept, stays-take}
@@ -54,3 +57,16 @@ pub hear-first : (width room : ℕ) (b : Bench) (s : List ℕ) → hear width ro
 unfolding hear
 hear-first width room b s =
     rw (kept-stays (take 257 (kept s)) (stays-take 257 (kept s) (stays-kept s))) (heard-first width room (b .forms) (b .session) (kept s))
+
+-- and so in a class, whatever the others do: what a line is to the store, and what it is answered
+filing-first : (width : ℕ) (st : Session) (s : List ℕ) → filingOf width st (take 257 (kept s)) ≡ filingOf width st s
+unfolding filingOf
+filing-first width st s = rw (kept-stays (take 257 (kept s)) (stays-take 257 (kept s) (stays-kept s)), read-first width (kept s))
+
+pub line-first : (width room : ℕ) (c : Class) (t : ℕ) (s : List ℕ) → hearFrom width room c t (take 257 (kept s)) ≡ hearFrom width room c t s
+unfolding hearFrom hearOf hearUnless
+line-first width room c t s = rw (filing-first width (c .tablet t .session) s, unless-first (barred c t (filingOf width (c .tablet t .session) s)))
+  where
+    unless-first : (o : Option Refusal) → hearUnless o width room (desk c t) (take 257 (kept s)) ≡ hearUnless o width room (desk c t) s
+    unless-first none = hear-first width room (desk c t) s
+    unless-first (some r) = refl

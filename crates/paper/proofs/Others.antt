@@ -12,7 +12,7 @@ use Rattle.paper.specs.Command.{Filing, start, finish, inform, recall, d
 use Rattle.paper.specs.Refusal.{Refusal, othersCollect, heldOpen}
 use Rattle.paper.specs.Form.{isSome, find}
 use Rattle.paper.specs.Bench.{Session, idle, collecting, spoiled, opened, answering, ready, printing}
-use Rattle.paper.specs.Class.{Tablet, Class, thirty, atRest, collects, holdsForm, anotherBelow, another, filingOf, starts, strikes, renamed, barred}
+use Rattle.paper.specs.Class.{Tablet, Class, thirty, atRest, collects, holdsForm, anotherBelow, another, filingOf, starts, strikes, barred}
 use Rattle.paper.proofs.Law.{if-true, if-false, and-both}
 use Rattle.paper.proofs.Test.{either}
 use Rattle.paper.proofs.Invariant.{endsForm}
@@ -119,16 +119,6 @@ barred-ends c t f r e =
     either (another c t (λ x. holdsForm (x .session) && strikes f (x .form)))
     (λ y. rw (← Option·some-injective _ _ (sym (if-false _ _ _ n ∙ if-true _ _ _ y) ∙ e)))
     (λ m. some-none e (if-false _ _ _ n ∙ if-false _ _ _ m)))
-
--- a forbidden line names no other form
-pub barred-names : (c : Class) (t : ℕ) (f : Option Filing) (r : Refusal) (form : List ℕ) → barred c t f ≡ some r → renamed f form ≡ form
-unfolding renamed
-barred-names c t none r form e = refl
-barred-names c t (some (start name)) r form e = refl
-barred-names c t (some finish) r form e = refl
-barred-names c t (some inform) r form e = refl
-barred-names c t (some (recall name)) r form e = some-none e (barred-recall c t name)
-barred-names c t (some (delete name)) r form e = refl
 
 -- only in Idle may a line be forbidden
 pub barred-idle : (width : ℕ) (c : Class) (t : ℕ) (st : Session) (s : List ℕ) (r : Refusal) → barred c t (filingOf width st s) ≡ some r → st ≡ idle

@@ -1,10 +1,10 @@
 -- Laws of the small words on texts: tests that every byte passes, over texts put together, and what they say of control bytes.
 use Prim.Native.Nat.{ℕ, _≤_}
 use mathlib.Core.Path.{_≡_, refl, sym}
-use mathlib.Core.Bool.{Bool, true, false, _&&_, and-assoc, false≢true}
+use mathlib.Core.Bool.{Bool, true, false, _&&_, and-assoc, or-true, false≢true}
 use mathlib.Core.List.{List, [], _∷_, _++_}
 use native.Mathlib.Omega.{arith}
-use lib.Dec.{leb, eqb}
+use lib.Dec.{leb, ltb, eqb}
 use borrow.Author.Tests.{leb-true, le-ltb, le-leb, eqb-true}
 use Rattle.paper.specs.Byte.{every, any, among, between, same}
 use Rattle.paper.specs.Line.{control}
@@ -22,6 +22,12 @@ unfolding every
 every-weaker p q w [] e = refl
 every-weaker p q w (b ∷ s) e =
     and-both (q b) (every q s) (w b (and-left (p b) (every p s) e)) (every-weaker p q w s (and-right (p b) (every p s) e))
+
+-- a byte below 20H behind others is a control byte of the whole
+pub control-behind : (x : List ℕ) (b : ℕ) (y : List ℕ) → ltb b 0x20 ≡ true → control (x ++ (b ∷ y)) ≡ true
+unfolding control any
+control-behind [] b y e = rw e
+control-behind (c ∷ x) b y e = rw (control-behind x b y e) (or-true (ltb c 0x20))
 
 -- a byte that is no control byte
 abbrev pub clear : ℕ → Bool

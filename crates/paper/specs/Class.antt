@@ -150,9 +150,9 @@ pub record Reply : Type 0 where
   pub whose : Option ℕ
   pub next : Class
 
--- one tablet changed, every other as it was
-unfoldable pub seat : ℕ → Tablet → (ℕ → Tablet) → ℕ → Tablet
-seat t x tablet k = if eqb k t then x else tablet k
+-- what stands at one number changed, at every other as it was
+unfoldable pub seat : {A : Type 0} → ℕ → A → (ℕ → A) → ℕ → A
+seat t x f k = if eqb k t then x else f k
 
 -- a tablet in such a state knows the form that it holds
 unfoldable pub tabletOf : Session → List ℕ → Tablet

@@ -13,3 +13,4 @@ pub mod Calls
 pub mod Class
 pub mod Diary
 pub mod ClassProgram
+pub mod Freeing

@@ -15,7 +15,7 @@ use Rattle.command.specs.View.{width}
 use Rattle.form.specs.Plan.{planOf}
 use Rattle.store.specs.Packed.{textsOf, packed}
 use Rattle.set.specs.Answers.{answersText, valuesIn}
-use Rattle.session.specs.Memory.{Session, Shelf, sessionOf, drafts, drafting, placeOf, holds, holding, packedSession, entriesOf, plansOf, packedShelf, Lies, Opens}
+use Rattle.session.specs.Memory.{Session, Shelf, sessionOf, drafts, drafting, placeOf, holds, holding, packedSession, entriesOf, packedShelf, Lies, Opens}
 use Rattle.session.specs.Outcome.{At, Kept, Planned, Showing}
 use Rattle.session.specs.declared.state.Mode.{Mode}
 use Rattle.session.specs.declared.state.Held.{Held}

@@ -13,7 +13,7 @@ use Rattle.paper.specs.Byte.{if_then_else_, same}
 use Rattle.paper.specs.Command.{FormLine}
 use Rattle.paper.specs.Form.{Form, isSome, textOf, find, without}
 use Rattle.paper.specs.Bench as P
-use Rattle.paper.specs.Class.{Tablet, openLines, holdsForm}
+use Rattle.paper.specs.Class.{openLines, holdsForm}
 use Rattle.paper.specs.State.{AllStored}
 use Rattle.paper.proofs.Law.{if-true, if-false}
 use Rattle.paper.proofs.Store.{same-sym, without-absent}
@@ -23,8 +23,7 @@ use Rattle.session.specs.Memory.{Session, drafts, drafting, placeOf, holds, hol
 use Rattle.session.specs.declared.state.Mode.{Mode}
 use Rattle.session.specs.declared.state.Mode.the-variants as M
 use Rattle.session.specs.declared.state.Held.{Held}
-use Rattle.seats.specs.Seats.{numbersOf, lowered, withHeld}
-use Rattle.seats.proofs.Parted.{numbers-alike}
+use Rattle.seats.specs.Seats.{lowered, withHeld}
 
 -- the numbers of names, the places and the forms that are left, form by form
 module _ (name : List ℕ) (f : Form) (fs : List Form) where
@@ -167,10 +166,3 @@ leaves-lowered width name form fs gone (P.ready ls given) all e apart =
     ap (λ h. withHeld h (holding M.Ready fs (numberOf form fs) ls given)) (holds-lowered width name form fs gone M.Ready ls _ all e (apart refl))
 leaves-lowered width name form fs gone (P.printing ls given k c i) all e apart =
     ap (λ h. withHeld h (holding (M.Printing k c i) fs (numberOf form fs) ls given)) (holds-lowered width name form fs gone (M.Printing k c i) ls _ all e (apart refl))
-
--- so do the numbers of a class of which nobody holds that form open
-pub tablets-lowered : (width : ℕ) (name : List ℕ) (fs : List Form) (gone : List FormLine) (f : ℕ → Tablet) → AllStored width fs → find name fs ≡ some gone → ((k : ℕ) → k < 30 → holdsForm (f k .session) ≡ true → same name (f k .form) ≡ false)
-    → numbersOf (λ k. lowered (numberOf name fs) (length (textOf gone)) (packedSession fs (numberOf (f k .form) fs) (f k .session) .held)) ≡ numbersOf (λ k. packedSession (without name fs) (numberOf (f k .form) (without name fs)) (f k .session) .held)
-unfolding withHeld
-tablets-lowered width name fs gone f all e apart =
-    numbers-alike _ _ (λ k l. sym (ap (λ (s : Session). s .held) (leaves-lowered width name (f k .form) fs gone (f k .session) all e (apart k l))))

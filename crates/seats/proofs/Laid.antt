@@ -1,11 +1,9 @@
 -- The numbers of a session in memory: what is read from them, and what is put there.
-use Prim.Native.Nat.{ℕ, zero, suc, _≤_}
-use mathlib.Core.Path.{_≡_, refl, sym, _∙_, ap}
-use mathlib.Core.Bool.{true, false}
+use Prim.Native.Nat.{ℕ}
+use mathlib.Core.Path.{_≡_, refl, _∙_, ap}
 use mathlib.Core.List.{List, [], _∷_}
 use native.Mathlib.Omega.{arith}
-use lib.ListN.{length, drop, set, getD}
-use lib.Dec.{eqb}
+use lib.ListN.{length, set, getD}
 use borrow.Author.Tests.{ne-eqb}
 use Rattle.paper.specs.Byte.{if_then_else_}
 use Rattle.store.specs.Packed.{Store}

@@ -8,12 +8,14 @@ use lib.ListN.{length, take, drop, getD, set, length-set}
 use lib.Dec.{ltb, eqb}
 use borrow.Author.Tests.{lt-ltb, le-ltb, ltb-true, ltb-false, eqb-true, eqb-false}
 use Rattle.paper.specs.Byte.{if_then_else_}
+use Rattle.paper.specs.Class.{seat}
 use Rattle.paper.proofs.Law.{if-true, if-false}
+use Rattle.paper.proofs.Apart.{seat-own, seat-other}
 use Rattle.paper.proofs.Test.{either}
 use Rattle.session.specs.declared.state.Held.{Held}
 use Rattle.seats.specs.Numbers.{heldIn}
-use Rattle.seats.specs.Seats.{numbersOf, heldAt, lowered, loweredAt}
-use Rattle.seats.proofs.Parted.{numbers-alike, numbers-seat, numbers-split, before-length, middle-set, form-at, start-at, held-own, held-other}
+use Rattle.seats.specs.Seats.{numbersOf, lowered, loweredAt}
+use Rattle.seats.proofs.Parted.{numbers-alike, numbers-seat, numbers-split, before-length, middle-set, form-at, start-at}
 
 -- one session, in the order of the code
 module _ (held : List ℕ) (at n size : ℕ) where
@@ -33,7 +35,7 @@ module _ (held : List ℕ) (at n size : ℕ) where
   one-length v w = simp length-set
 
 -- in memory a session follows so
-pub numbers-lowered : (h : ℕ → Held) (k n size : ℕ) → k < 30 → loweredAt n size (numbersOf h) (k * 10) ≡ numbersOf (heldAt k (lowered n size (h k)) h)
+pub numbers-lowered : (h : ℕ → Held) (k n size : ℕ) → k < 30 → loweredAt n size (numbersOf h) (k * 10) ≡ numbersOf (seat k (lowered n size (h k)) h)
 unfolding loweredAt lowered heldIn if_then_else_
 numbers-lowered h k n size l =
     let before = take (k * 10) (numbersOf h) in
@@ -63,16 +65,16 @@ below-here : (n size k : ℕ) (h : ℕ → Held) → loweredBelow n size k h k �
 unfolding loweredBelow
 below-here n size k h = if-false _ _ _ (le-ltb k k (omega arith))
 
-below-turns : (n size k : ℕ) (h : ℕ → Held) (j : ℕ) → heldAt k (lowered n size (h k)) (loweredBelow n size k h) j ≡ loweredBelow n size (suc k) h j
+below-turns : (n size k : ℕ) (h : ℕ → Held) (j : ℕ) → seat k (lowered n size (h k)) (loweredBelow n size k h) j ≡ loweredBelow n size (suc k) h j
 unfolding loweredBelow
 below-turns n size k h j =
     either (eqb j k)
     (λ y.
     let e = eqb-true j k y in
-    held-own k _ _ j y ∙ rw (← e) (sym (if-true _ _ _ (lt-ltb j (suc j) (omega arith)))))
+    seat-own k _ _ j y ∙ rw (← e) (sym (if-true _ _ _ (lt-ltb j (suc j) (omega arith)))))
     (λ o.
     let e = eqb-false j k o in
-    held-other k _ _ j o
+    seat-other k _ _ j o
     ∙ either (ltb j k)
     (λ y. let l = ltb-true j k y in if-true _ _ _ y ∙ sym (if-true _ _ _ (lt-ltb j (suc k) (omega arith))))
     (λ m. let l = ltb-false j k m in if-false _ _ _ m ∙ sym (if-false _ _ _ (le-ltb j (suc k) (omega arith)))))

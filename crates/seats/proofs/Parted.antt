@@ -1,19 +1,17 @@
 -- The numbers of thirty sessions: each session's stand at its own part, and writing a part changes that session alone.
 use Prim.Native.Nat.{ℕ, suc, _+_, _*_, _<_}
 use mathlib.Core.Path.{_≡_, refl, _∙_, ap}
-use mathlib.Core.Bool.{true, false}
 use mathlib.Core.List.{List, [], _∷_, _++_}
 use native.Mathlib.Omega.{arith}
 use lib.ListN.{length, take, drop, getD, set, List·getD-append}
 use lib.Seq.{length-take-le, getD-append-add}
-use lib.Dec.{eqb}
 use borrow.Author.Tests.{eq-eqb}
-use Rattle.paper.specs.Class.{Tablet, seat}
-use Rattle.paper.proofs.Law.{if-true, if-false}
+use Rattle.paper.specs.Class.{seat}
+use Rattle.paper.proofs.Apart.{seat-own, seat-other}
 use Rattle.session.specs.declared.state.Held.{Held}
 use Rattle.seats.specs.Numbers.{codeOf, heldIn}
-use Rattle.seats.specs.Seats.{numbersOf, heldAt}
-use Rattle.seats.proofs.Flat.{flat-length, flat-alike, flat-at, flat-write, flat-seat}
+use Rattle.seats.specs.Seats.{numbersOf}
+use Rattle.seats.proofs.Flat.{flat-length, flat-alike, flat-write}
 
 -- a session has ten numbers
 pub held-length : (h : Held) → length (heldIn h) ≡ 10
@@ -23,42 +21,22 @@ held-length h = refl
 -- thirty have three hundred
 pub numbers-length : (h : ℕ → Held) → length (numbersOf h) ≡ 300
 unfolding numbersOf
-numbers-length h = flat-length (λ k. heldIn (h k)) 10 0 30 (λ k. held-length (h k))
-
--- the numbers of one of them
-pub numbers-part : (h : ℕ → Held) (t : ℕ) → t < 30 → take 10 (drop (t * 10) (numbersOf h)) ≡ heldIn (h t)
-unfolding numbersOf
-numbers-part h t l = let here : 0 + t ≡ t = omega arith in rw here at (flat-at (λ k. heldIn (h k)) 10 0 30 t (λ k. held-length (h k)) l)
+numbers-length h = flat-length (λ k. heldIn (h k)) 10 0 30 (λ k m n. held-length (h k))
 
 -- sessions that are the same below thirty have the same numbers
 pub numbers-alike : (g h : ℕ → Held) → ((k : ℕ) → k < 30 → g k ≡ h k) → numbersOf g ≡ numbersOf h
 unfolding numbersOf
 numbers-alike g h e = flat-alike (λ k. heldIn (g k)) (λ k. heldIn (h k)) 0 30 (λ k l m. ap heldIn (e k m))
 
--- the session that was changed, and any other
-pub held-own : (t : ℕ) (x : Held) (h : ℕ → Held) (k : ℕ) → eqb k t ≡ true → heldAt t x h k ≡ x
-unfolding heldAt
-held-own t x h k e = if-true _ _ _ e
-
-pub held-other : (t : ℕ) (x : Held) (h : ℕ → Held) (k : ℕ) → eqb k t ≡ false → heldAt t x h k ≡ h k
-unfolding heldAt
-held-other t x h k e = if-false _ _ _ e
-
 -- writing a session's numbers at its part changes that session alone
 pub numbers-seat : (h : ℕ → Held) (t : ℕ) (x : Held) → t < 30
-    → numbersOf (heldAt t x h) ≡ take (t * 10) (numbersOf h) ++ (heldIn x ++ drop (suc t * 10) (numbersOf h))
+    → numbersOf (seat t x h) ≡ take (t * 10) (numbersOf h) ++ (heldIn x ++ drop (suc t * 10) (numbersOf h))
 unfolding numbersOf
 numbers-seat h t x l =
     let here : 0 + t ≡ t = omega arith in
-    let own : heldAt t x h t ≡ x = held-own t x h t (eq-eqb t t refl) in
+    let own : seat t x h t ≡ x = seat-own t x h t (eq-eqb t t refl) in
     rw (here, own) at
-    (flat-write (λ k. heldIn (h k)) (λ k. heldIn (heldAt t x h k)) 10 0 30 t (λ k. held-length (h k)) (λ k n. ap heldIn (held-other t x h k (rw here at n))) l)
-
--- so of a class, where a call of tablet t changes the t-th
-pub tablets-seat : (of : Tablet → Held) (t : ℕ) (x : Tablet) (f : ℕ → Tablet) → t < 30
-    → numbersOf (λ k. of (seat t x f k)) ≡ take (t * 10) (numbersOf (λ k. of (f k))) ++ (heldIn (of x) ++ drop (suc t * 10) (numbersOf (λ k. of (f k))))
-unfolding numbersOf
-tablets-seat of t x f l = flat-seat (λ y. heldIn (of y)) 10 t x f (λ y. held-length (of y)) l
+    (flat-write (λ k. heldIn (h k)) (λ k. heldIn (seat t x h k)) 10 0 30 t (λ k m n. held-length (h k)) (λ k n. ap heldIn (seat-other t x h k (rw here at n))) l)
 
 -- the numbers before a part, the part itself, and those behind it
 pub numbers-split : (h : ℕ → Held) (t : ℕ) → t < 30
@@ -66,7 +44,7 @@ pub numbers-split : (h : ℕ → Held) (t : ℕ) → t < 30
 unfolding numbersOf
 numbers-split h t l =
     let here : 0 + t ≡ t = omega arith in
-    rw here at (flat-write (λ k. heldIn (h k)) (λ k. heldIn (h k)) 10 0 30 t (λ k. held-length (h k)) (λ k n. refl) l)
+    rw here at (flat-write (λ k. heldIn (h k)) (λ k. heldIn (h k)) 10 0 30 t (λ k m n. held-length (h k)) (λ k n. refl) l)
 
 -- how many stand before it
 pub before-length : (h : ℕ → Held) (t : ℕ) → t < 30 → length (take (t * 10) (numbersOf h)) ≡ t * 10

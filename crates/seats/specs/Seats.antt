@@ -19,10 +19,6 @@ flat part from (suc count) = part from ++ flat part (suc from) count
 unfoldable pub numbersOf : (ℕ → Held) → List ℕ
 numbersOf h = flat (λ k. heldIn (h k)) 0 30
 
--- one session changed, every other as it was
-unfoldable pub heldAt : ℕ → Held → (ℕ → Held) → ℕ → Held
-heldAt t x h k = if eqb k t then x else h k
-
 -- a session in a state from one tag up to another, with a form's number from one up to another
 unfoldable pub isAt : (low high first last : ℕ) → Held → Bool
 isAt low high first last h = between low high (codeOf (h .mode) .tag) && between first last (h .form)

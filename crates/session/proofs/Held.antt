@@ -7,7 +7,7 @@ use denote.Enum.Declared.{tagOf}
 use mir.Val.{hasKey}
 use types.Run.{OneOf, miss}
 use lib.Dec.{T, eqb}
-use Rattle.paper.specs.Command.{Command, FormLine}
+use Rattle.paper.specs.Command.{FormLine}
 use Rattle.paper.specs.Form.{Form}
 use Rattle.paper.specs.Refusal as R
 use Rattle.paper.specs.Bench as P
@@ -16,8 +16,8 @@ use Rattle.command.specs.Answer.{Reports}
 use Rattle.command.specs.declared.Answer.{Answer}
 use Rattle.command.specs.declared.Answer.the-variants as A
 use Rattle.command.specs.declared.Refusal.{Refusal}
-use Rattle.session.specs.Memory.{Session, Shelf, sessionOf, drafts, drafting, holds, holding, packedSession, packedShelf, afterCommand}
-use Rattle.session.specs.Outcome.{At, Does, Obeys, Heeds, Minds, Refuses, obey}
+use Rattle.session.specs.Memory.{Session, Shelf, sessionOf, drafts, drafting, holds, holding, packedSession, packedShelf}
+use Rattle.session.specs.Outcome.{Does, Refuses}
 use Rattle.session.proofs.state.Mode as Mode
 use Rattle.session.specs.declared.state.Mode.the-variants as M
 use Rattle.session.specs.declared.state.Held.{Held}

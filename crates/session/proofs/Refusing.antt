@@ -9,8 +9,8 @@ use Rattle.paper.specs.Bench as P
 use Rattle.command.specs.View.{refusalOf}
 use Rattle.command.specs.declared.Answer.{Answer}
 use Rattle.command.specs.declared.Refusal.the-variants as W
-use Rattle.session.specs.Memory.{Session, Shelf, drafts, drafting, holds, holding, packedSession, packedShelf, ifIdle, afterFiling, afterCommand}
-use Rattle.session.specs.Outcome.{At, Does, Obeys, Heeds, Minds, Refuses, obey}
+use Rattle.session.specs.Memory.{Session, drafts, drafting, holds, holding, packedSession, ifIdle, afterFiling, afterCommand}
+use Rattle.session.specs.Outcome.{Minds, Refuses, obey}
 use Rattle.session.proofs.Held.{Tagged, wrong, seen, does-refuse}
 
 -- a command is not taken in a session: the paper refuses it, and no other form is held open behind it

@@ -7,8 +7,8 @@ use mathlib.Core.List.{List, [], _∷_, _++_}
 use mathlib.Core.Option.{Option, none, some, Option·some-ne-none}
 use native.Mathlib.Omega.{arith}
 use lib.ListN.{length, take, length-append}
-use lib.Dec.{leb, eqb}
-use borrow.Author.Tests.{leb-true, eqb-true, eqb-false, eq-eqb, not-true}
+use lib.Dec.{eqb}
+use borrow.Author.Tests.{eqb-true, eqb-false, eq-eqb, not-true}
 use Rattle.paper.specs.Byte.{if_then_else_}
 use Rattle.paper.specs.Command.{Value, counter, variable, Define, counting, varying, FormLine, draw, define, drawRanges, defineRanges, ranges, allOf, inRange}
 use Rattle.paper.specs.Form.{asked, valueOf, lenOf, sameValue, defined, valueSound, firstBroken, unsoundAt}

@@ -1,11 +1,11 @@
 -- The used bytes of a session: what each of its slices holds at the front, and that it has room there.
-use Prim.Native.Nat.{ℕ, _+_, _-_, _≤_, _<_}
-use mathlib.Core.Path.{_≡_, refl, sym, _∙_, ap}
+use Prim.Native.Nat.{ℕ, _+_, _-_, _≤_}
+use mathlib.Core.Path.{_≡_, refl, _∙_}
 use mathlib.Core.Bool.{true, false≢true}
-use mathlib.Core.List.{List, [], _∷_, _++_, append-nil}
+use mathlib.Core.List.{List, [], _∷_, append-nil}
 use native.Mathlib.Omega.{arith}
-use lib.ListN.{length, take, drop, replicate, length-append, length-replicate, replicate-append-replicate, drop-of-length-le}
-use lib.Seq.{take-all, length-take-le, take-append-seam, drop-at}
+use lib.ListN.{length, take, drop, replicate, length-replicate, replicate-append-replicate, drop-of-length-le}
+use lib.Seq.{take-all, take-append-seam, drop-at}
 use lib.Dec.{leb}
 use borrow.Author.Tests.{leb-true}
 use Rattle.paper.specs.Byte.{every}
@@ -21,10 +21,9 @@ use Rattle.command.specs.View.{width}
 use Rattle.store.specs.Gap.{zeros}
 use Rattle.set.specs.Answers.{answersText, valuesIn}
 use Rattle.set.proofs.Keeping.{from-length}
-use Rattle.session.specs.Memory.{Session, Shelf, drafts, drafting, holds, holding, packedSession}
-use Rattle.session.specs.Outcome.{At, Kept, Fills, Used}
+use Rattle.session.specs.Memory.{Session, drafts, drafting, holds, holding, packedSession}
+use Rattle.session.specs.Outcome.{Kept, Fills, Used}
 use Rattle.session.specs.declared.state.Mode.{Mode}
-use Rattle.session.specs.declared.state.Held.{Held}
 use Rattle.session.proofs.Room.{answers-room}
 
 -- the front of a padded list is the list

@@ -1,20 +1,20 @@
 -- What a step promises: the paper's answer, the memory of the paper's next state, and the lent buffer.
-use Prim.Native.Nat.{ℕ, suc, _+_, _*_, _≤_, _<_}
+use Prim.Native.Nat.{ℕ, _≤_, _<_}
 use mathlib.Core.Path.{_≡_}
 use mathlib.Core.Bool.{true, _||_}
-use mathlib.Core.List.{List, [], _∷_, _++_}
+use mathlib.Core.List.{List, []}
 use lib.ListN.{length}
 use lib.Dec.{leb, ltb, eqb}
-use Rattle.paper.specs.Byte.{if_then_else_, same, every}
+use Rattle.paper.specs.Byte.{if_then_else_, same}
 use Rattle.paper.specs.Command as C
-use Rattle.paper.specs.Command.{Command, FormLine, keep, isName, isShown, star}
+use Rattle.paper.specs.Command.{Command, FormLine, keep, isName, star}
 use Rattle.paper.specs.Form.{Form}
 use Rattle.paper.specs.Read.{Reading, command, unread, read}
 use Rattle.paper.specs.Refusal as R
 use Rattle.paper.specs.Bench as P
 use Rattle.paper.specs.Set.{setOf}
 use Rattle.paper.specs.State.{Sane}
-use Rattle.command.specs.View.{width, viewOf, refusalOf, textIn, Holds}
+use Rattle.command.specs.View.{width, viewOf, textIn, Holds}
 use Rattle.command.specs.Answer.{Meets}
 use Rattle.command.specs.declared.Answer.{Answer}
 use Rattle.command.specs.declared.Answer.the-variants as A
@@ -25,7 +25,7 @@ use Rattle.text.specs.Write.{padded}
 use Rattle.text.specs.declared.read.Span.{Span}
 use Rattle.store.specs.Packed.{Store}
 use Rattle.set.specs.Taking.{Taking}
-use Rattle.session.specs.Memory.{Session, Shelf, drafting, packedSession, packedShelf, Opens, ifIdle, afterCommand, named}
+use Rattle.session.specs.Memory.{Session, Shelf, drafting, packedSession, packedShelf, Opens, afterCommand, named}
 use Rattle.session.specs.declared.name.Name.{Name}
 use Rattle.session.specs.declared.state.Mode.{Mode}
 use Rattle.session.specs.declared.state.Mode.the-variants as M

@@ -1,25 +1,17 @@
 -- The answers so far: none at first, one more with each that fits, and all of them fill the form. For the callers of this crate.
-use Prim.Native.Nat.{ℕ, _+_, _≤_}
-use mathlib.Core.Path.{_≡_, refl, _∙_}
+use Prim.Native.Nat.{ℕ}
+use mathlib.Core.Path.{_≡_, _∙_}
 use mathlib.Core.Bool.{true, false, false≢true}
 use mathlib.Core.List.{List, [], _∷_, _++_, append-assoc, append-nil}
 use native.Mathlib.Omega.{arith}
-use lib.ListN.{length, take, replicate, length-append}
-use lib.Seq.{take-all}
 use Rattle.paper.specs.Command as P
-use Rattle.paper.specs.Command.{FormLine}
-use Rattle.paper.specs.Form.{asked}
 use Rattle.paper.specs.Set.{fits}
-use Rattle.paper.specs.State.{Storable, fitting}
+use Rattle.paper.specs.State.{fitting}
 use Rattle.paper.proofs.Law.{if-true, if-false, and-left, and-right}
 use Rattle.paper.proofs.Test.{either}
-use Rattle.command.specs.View.{width}
-use Rattle.form.specs.Plan.{planOf}
-use Rattle.set.specs.Answers.{answersText, firstOf, secondOf, valuesFrom, valuesIn}
-use Rattle.set.specs.Taking.{Filled, Asking, Answering, Notes}
+use Rattle.set.specs.Answers.{answersText, firstOf, secondOf}
 use Rattle.set.specs.Judge.{judgedAs}
 use Rattle.set.specs.declared.answer.Value.the-variants.{Kept, Unfit}
-use Rattle.set.proofs.Judging.{take-more}
 
 -- an answer more stands behind the others
 pub answers-append : (given : List (List ℕ)) (a : List ℕ) → answersText (given ++ (a ∷ [])) ≡ answersText given ++ a

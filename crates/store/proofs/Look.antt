@@ -6,7 +6,6 @@ use native.Mathlib.Omega.{arith}
 use native.Mathlib.Numerals.{add-one}
 use lib.ListN.{length, take, drop, getD, replicate, length-append, length-map, List·getD-append}
 use lib.Seq.{drop-cons, take-suc, take-append-seam, drop-append-add, take-nil}
-use Rattle.store.specs.Gap.{bytesAt}
 use Rattle.store.specs.Packed.{Store, Entry, entry, slot, textsOf, namesOf, packed, nameIn, Short, Kept}
 use Rattle.store.proofs.Packing.{slot-length, texts-more}
 use Rattle.text.specs.Write.{padded}

@@ -1,7 +1,7 @@
 -- Memory that is moved down over a gap, and wiped: loops of writes whose bytes come from the memory itself.
 use mathlib.Core.Path.{_≡_, refl, sym, _∙_, ap}
 use mathlib.Core.List.{List, [], _∷_, _++_}
-use Prim.Native.Nat.{ℕ, _+_, _-_, _≤_, _<_}
+use Prim.Native.Nat.{ℕ, _+_, _≤_, _<_}
 use native.Mathlib.Omega.{arith}
 use lib.ListN.{length, drop, getD, set, replicate, length-take, length-drop, replicate-append-replicate}
 use lib.Seq.{getD-take, getD-drop}

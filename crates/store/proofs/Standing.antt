@@ -1,6 +1,5 @@
 -- What a caller needs of a store that is lent: its sizes.
 use Prim.Native.Nat.{_≤_}
-use mathlib.Core.Path.{_≡_}
 use native.Mathlib.Omega.{arith}
 use lib.ListN.{length, length-map}
 use Rattle.text.proofs.Padded.{padded-length}

@@ -1,7 +1,7 @@
 -- Calls that were made of a class follow the paper one by one: what they told is what the paper answers, the memory is that of the
 -- paper's class, the tablets that takes told are those that it serves, and each tablet's diary is the paper's.
 use Prim.Native.Nat.{ℕ, _<_}
-use mathlib.Core.Path.{_≡_, refl, sym, _∙_, ap}
+use mathlib.Core.Path.{_≡_, refl, _∙_, ap}
 use mathlib.Core.List.{List, [], _∷_, map}
 use mathlib.Core.Option.{Option, none, some}
 use native.Mathlib.Omega.{arith}
@@ -20,7 +20,6 @@ use Rattle.command.specs.View.{width}
 use Rattle.command.specs.Answer.{Reports, Meets}
 use Rattle.command.specs.declared.Answer.{Answer}
 use Rattle.command.specs.declared.Answer.the-variants as A
-use Rattle.command.proofs.Outcome.{meets-one}
 use Rattle.session.specs.Memory.{drafting, drafts, holding, holds, packedSession}
 use Rattle.seats.specs.Numbers.{codeOf}
 use Rattle.seats.specs.Seats.{seatOf}
@@ -38,12 +37,6 @@ meets-told (R.accepted bytes) old new (A.Accepted len) m = ap R.accepted (rw (m 
 meets-told (R.accepted bytes) old new (A.Refused why) m = absurd (m .reports)
 meets-told (R.refused r) old new (A.Accepted len) m = absurd (m .reports)
 meets-told (R.refused r) old new (A.Refused why) m = ap R.refused (m .reports)
-
--- so two calls that told the same gave the same answer
-pub told-one : (a a′ : R.Answer) (old old′ new new′ : List ℕ) (r r′ : Answer) → Meets a old new r → Meets a′ old′ new′ r′ → toldBy r new ≡ toldBy r′ new′ → r ≡ r′
-told-one a a′ old old′ new new′ r r′ p p′ e =
-    let one : a′ ≡ a = sym (meets-told a′ old′ new′ r′ p′) ∙ sym e ∙ meets-told a old new r p in
-    meets-one a [] (R.lent [] a) (R.lent [] a) r r′ (record { reports = p .reports; buffer = refl }) (record { reports = rw one at (p′ .reports); buffer = refl }) .1
 
 -- a line is for its sender
 line-whose : (t u room : ℕ) (c : Class) (s : List ℕ) → t < 30 → eqb t u ≡ isFor t (hearFrom width room c u s .whose)

@@ -1,25 +1,23 @@
 -- How many print: a step of a tablet changes the count by that tablet alone. From Idle and from Answering no line leads to Printing.
-use Prim.Native.Nat.{ℕ, zero, suc, _+_, _-_, _≤_, _<_}
+use Prim.Native.Nat.{ℕ, zero, suc, _+_, _≤_}
 use mathlib.Core.Path.{_≡_, refl, sym, _∙_, ap}
-use mathlib.Core.Bool.{Bool, true, false, true≢false}
+use mathlib.Core.Bool.{Bool, false}
 use mathlib.Core.List.{List, [], _∷_, _++_}
 use mathlib.Core.Option.{Option, none, some}
 use native.Mathlib.Omega.{arith}
 use lib.ListN.{length, drop}
 use lib.Dec.{leb, eqb}
 use borrow.Author.Tests.{eqb-true, eqb-false}
-use Rattle.paper.specs.Byte.{if_then_else_}
 use Rattle.paper.specs.Line.{kept, long, control}
-use Rattle.paper.specs.Command.{Define, FormLine, Filing, start, finish, inform, recall, delete, Command, empty, new, keep, file, ask, print}
+use Rattle.paper.specs.Command.{Define, FormLine, Filing, start, finish, inform, recall, delete, empty, new, keep, file, ask, print}
 use Rattle.paper.specs.Read.{Reading, command, unread, read}
-use Rattle.paper.specs.Refusal.{Refusal, Answer, accepted, refused}
 use Rattle.paper.specs.Form.{Form, isSome, find, asked, listing}
 use Rattle.paper.specs.Set.{fits}
-use Rattle.paper.specs.Bench.{Session, idle, answering, Outcome, outcome, done, replied, refuse, afterRefusal, openedWith, recalled, filed, inIdle, answeredOf, answered, inAnswering, obeyed, heard, hear}
-use Rattle.paper.specs.Class.{Class, prints, countBelow, thirty, printers, reply}
+use Rattle.paper.specs.Bench.{idle, answering, Outcome, outcome, done, replied, refuse, afterRefusal, openedWith, recalled, filed, inIdle, answeredOf, answered, inAnswering, obeyed, heard, hear}
+use Rattle.paper.specs.Class.{Class, prints, countBelow, thirty, printers}
 use Rattle.paper.proofs.Law.{by-test}
 use Rattle.paper.proofs.Test.{either}
-use Rattle.paper.proofs.Count.{oneIf, reply-count}
+use Rattle.paper.proofs.Count.{oneIf}
 use Rattle.command.specs.View.{width}
 use Rattle.tablets.specs.Calls.{recounted}
 

@@ -1,9 +1,9 @@
 -- A form leaves: the sessions that hold a form behind it follow in memory as they do on paper.
-use Prim.Native.Nat.{ℕ, _+_, _*_, _≤_, _<_}
+use Prim.Native.Nat.{ℕ, _*_, _<_}
 use mathlib.Core.Path.{_≡_, refl, sym, _∙_, ap}
 use mathlib.Core.Bool.{Bool, true, false, _&&_, _||_}
 use mathlib.Core.List.{List, [], _∷_, _++_}
-use mathlib.Core.Option.{Option, none, some}
+use mathlib.Core.Option.{none, some}
 use native.Mathlib.Omega.{arith}
 use lib.ListN.{length, take, drop, getD, length-append, length-drop}
 use lib.Seq.{take-at, drop-at}
@@ -15,10 +15,11 @@ use Rattle.paper.specs.Command.{isShown, Filing, delete, star}
 use Rattle.paper.specs.Read.{Reading, command, unread, read}
 use Rattle.paper.specs.Form.{Form, without}
 use Rattle.paper.specs.Bench as P
-use Rattle.paper.specs.Class.{Class, atRest, printers, holdsForm, openLines, strikes, filingRead, filingOf, Reply, reply, hearFrom, SaneClass}
+use Rattle.paper.specs.Class.{Class, atRest, printers, holdsForm, openLines, strikes, filingRead, filingOf, Reply, seat, reply, hearFrom, SaneClass}
 use Rattle.paper.proofs.Law.{if-true, if-false}
 use Rattle.paper.proofs.Test.{either}
 use Rattle.paper.proofs.Others.{some-none, may-strike, each-other}
+use Rattle.paper.proofs.Apart.{seat-own, seat-other, free-reply}
 use Rattle.command.specs.View.{width}
 use Rattle.command.specs.Answer.{Meets}
 use Rattle.command.specs.declared.Answer.{Answer}
@@ -29,15 +30,14 @@ use Rattle.seats.specs.Seats.{numbersOf, lowered, withHeld}
 use Rattle.seats.proofs.Parted.{numbers-length}
 use Rattle.seats.proofs.Gone.{rests-lowered, leaves-lowered}
 use Rattle.call.specs.Call.{Memory}
-use Rattle.lend.specs.Laid.{sessionAt, numbered, laidOut, SeatHears}
-use Rattle.lend.proofs.Seating.{session-own, session-other}
+use Rattle.lend.specs.Laid.{numbered, laidOut, SeatHears}
 use Rattle.guard.specs.Guarded.{Takes, Guarding}
 use Rattle.guard.specs.declared.Guard.{Guard}
 use Rattle.guard.specs.declared.Guard.the-variants as G
 use Rattle.tablets.specs.Calls.{packedTablet, packedWith, packedClass, Reached, Warns, HearsLine}
 use Rattle.tablets.proofs.Leading.{hears-on, reached-sane}
 use Rattle.tablets.proofs.Packed.{packed-seated}
-use Rattle.tablets.proofs.Hearing.{laid-alike, withNumbers, free-reply, seated-next, free-count}
+use Rattle.tablets.proofs.Hearing.{laid-alike, withNumbers, seated-next, free-count}
 use Rattle.tablets.proofs.Leaving.{reached-idle}
 use Rattle.tablets.proofs.Forbidding.{idle-guards, idle-quiet}
 
@@ -119,19 +119,19 @@ module _ (c : Class) (sane : SaneClass width c) (t : ℕ) (l : t < 30) (s : List
   before j = packedTablet (c .forms) (c .tablet j)
 
   -- all follow
-  all-follow : (j : ℕ) → withHeld (lowered n size (sessionAt t own before j .held)) (sessionAt t own before j) ≡ sessionAt t own (λ i. withHeld (lowered n size (before i .held)) (before i)) j
+  all-follow : (j : ℕ) → withHeld (lowered n size (seat t own before j .held)) (seat t own before j) ≡ seat t own (λ i. withHeld (lowered n size (before i .held)) (before i)) j
   all-follow j =
       either (eqb j t)
-      (λ y. ap (λ (x : Session). withHeld (lowered n size (x .held)) x) (session-own t own before j y) ∙ own-follows ∙ sym (session-own t own _ j y))
-      (λ m. ap (λ (x : Session). withHeld (lowered n size (x .held)) x) (session-other t own before j m) ∙ sym (session-other t own _ j m))
+      (λ y. ap (λ (x : Session). withHeld (lowered n size (x .held)) x) (seat-own t own before j y) ∙ own-follows ∙ sym (seat-own t own _ j y))
+      (λ m. ap (λ (x : Session). withHeld (lowered n size (x .held)) x) (seat-other t own before j m) ∙ sym (seat-other t own _ j m))
 
   follow-next : (printing : ℕ)
-      → laidOut (packedShelf (leaving .next .forms)) (λ j. withHeld (lowered n size (sessionAt t own before j .held)) (sessionAt t own before j)) (c .last) printing
+      → laidOut (packedShelf (leaving .next .forms)) (λ j. withHeld (lowered n size (seat t own before j .held)) (seat t own before j)) (c .last) printing
       ≡ packedWith (hearFrom width room c t s .next) printing
   follow-next printing =
       laid-alike _ _ _ (c .last) printing (λ j b. all-follow j)
       ∙ seated-next c sane t l s room _ printing other-follows
-      ∙ ap (λ (x : Reply). packedWith (x .next) printing) (sym (free-reply c sane t l s room (takes .free)))
+      ∙ ap (λ (x : Reply). packedWith (x .next) printing) (sym (free-reply width c t l s room (takes .free)))
 
 -- memory with the numbers of sessions that have followed
 follow-laid : (shelf : Shelf) (f : ℕ → Session) (last printing n size : ℕ)
@@ -154,14 +154,14 @@ module _ (self : Memory) (t : ℕ) (l : t < 30) (s old : List ℕ) (idle : getD 
       let counts = free-count c (reached-sane self k) t l s (length old) (leaves-takes k .free) in
       let same : printers (hearFrom width (length old) c t s .next) ≡ printers c =
       omega (arith, rw (idle-quiet self t l s old idle shown k₀ k (leaves-takes k .free)) at counts) in
-      ap (withNumbers mid) (follows _ _ _ (ap (λ (m : Memory). m .held) is)) ∙ ap (λ (m : Memory). withNumbers m (numbered (λ j. withHeld (lowered n size (sessionAt t (own c (reached-sane self k) t l s (length old) (reached-idle self k t l idle) n size (leaves-takes k)) (before c (reached-sane self k) t l s (length old) (reached-idle self k t l idle) n size (leaves-takes k)) j .held)) (sessionAt t (own c (reached-sane self k) t l s (length old) (reached-idle self k t l idle) n size (leaves-takes k)) (before c (reached-sane self k) t l s (length old) (reached-idle self k t l idle) n size (leaves-takes k)) j)) (c .last) (printers c))) is
+      ap (withNumbers mid) (follows _ _ _ (ap (λ (m : Memory). m .held) is)) ∙ ap (λ (m : Memory). withNumbers m (numbered (λ j. withHeld (lowered n size (seat t (own c (reached-sane self k) t l s (length old) (reached-idle self k t l idle) n size (leaves-takes k)) (before c (reached-sane self k) t l s (length old) (reached-idle self k t l idle) n size (leaves-takes k)) j .held)) (seat t (own c (reached-sane self k) t l s (length old) (reached-idle self k t l idle) n size (leaves-takes k)) (before c (reached-sane self k) t l s (length old) (reached-idle self k t l idle) n size (leaves-takes k)) j)) (c .last) (printers c))) is
       ∙ follow-laid _ _ (c .last) (printers c) n size
       ∙ follow-next c (reached-sane self k) t l s (length old) (reached-idle self k t l idle) n size (leaves-takes k) (printers c)
       ∙ ap (packedWith (hearFrom width (length old) c t s .next)) (sym same)
 
   leaves-meets : (k : Reached self) → Meets (hearFrom width (length old) (k .class) t s .answer) old new r
   unfolding reply
-  leaves-meets k = rw (free-reply (k .class) (reached-sane self k) t l s (length old) (leaves-takes k .free)) (h .meets _ _ _ _ _ _ (packed-seated self k t l))
+  leaves-meets k = rw (free-reply width (k .class) t l s (length old) (leaves-takes k .free)) (h .meets _ _ _ _ _ _ (packed-seated self k t l))
 
   pub leaves-hears : HearsLine self t s old (withNumbers mid held) new r
   leaves-hears = record { reached = hears-on self k₀ (withNumbers mid held) t (length old) s (leaves-memory k₀); meets = leaves-meets; leaves = leaves-memory }

@@ -1,58 +1,46 @@
 -- A line of an idle tablet by what the others make of it: it is heard, it is refused and changes nothing, or a form leaves and they follow.
-use Prim.Native.Nat.{ℕ, _+_, _*_, _≤_, _<_}
+use Prim.Native.Nat.{ℕ, _*_, _≤_, _<_}
 use mathlib.Core.Path.{_≡_, refl, sym, _∙_, ap}
-use mathlib.Core.Bool.{Bool, true, false, _&&_, _||_, true≢false}
-use mathlib.Core.List.{List, [], _∷_, _++_}
-use mathlib.Core.Option.{Option, none, some}
-use native.Mathlib.Omega.{arith}
-use lib.ListN.{length, take, drop, getD}
-use lib.Seq.{take-at, drop-at}
-use lib.Dec.{ltb, eqb}
-use borrow.Author.Tests.{eq-eqb, eqb-true, lt-ltb, le-ltb}
-use Rattle.paper.specs.Byte.{if_then_else_, every, same}
+use mathlib.Core.Bool.{true, false, true≢false}
+use mathlib.Core.List.{List, []}
+use mathlib.Core.Option.{none, some}
+use lib.ListN.{length, take, getD}
+use lib.Dec.{eqb}
+use borrow.Author.Tests.{eqb-true, lt-ltb, le-ltb}
+use Rattle.paper.specs.Byte.{if_then_else_, every}
 use Rattle.paper.specs.Line.{kept, long, control}
-use Rattle.paper.specs.Command.{isShown, FormLine, Filing, delete, star}
+use Rattle.paper.specs.Command.{isShown}
 use Rattle.paper.specs.Refusal as R
 use Rattle.paper.specs.Read.{Reading, unread, read}
-use Rattle.paper.specs.Form.{Form, isSome, textOf, find, without}
-use Rattle.paper.specs.State.{Stored}
+use Rattle.paper.specs.Form.{Form, isSome}
 use Rattle.paper.specs.Bench as P
-use Rattle.paper.specs.Class.{Tablet, Class, desk, thirty, prints, printers, countBelow, holdsForm, openLines, strikes, filingRead, filingOf, renamed, another, barred, hearUnless, Reply, seat, tabletOf, reply, denied, hearOf, hearFrom, SaneClass}
+use Rattle.paper.specs.Class.{Class, desk, thirty, prints, holdsForm, openLines, filingOf, barred, hearUnless, Reply, tabletOf, reply, denied, hearOf, hearFrom, SaneClass}
 use Rattle.paper.proofs.Law.{by-test}
 use Rattle.paper.proofs.Dropped.{kept-stays, stays-kept, stays-take}
 use Rattle.listen.specs.Waiting.{Waits}
 use Rattle.listen.proofs.Hearing.{heard-waits}
 use Rattle.paper.proofs.Test.{either}
-use Rattle.paper.proofs.Apart.{seat-own, seat-other, reply-session}
-use Rattle.paper.proofs.Others.{may-strike, each-other}
+use Rattle.paper.proofs.Apart.{seat-own, seat-other}
 use Rattle.paper.proofs.ClassRefused.{tablet-over}
 use Rattle.command.specs.View.{width, refusalOf}
-use Rattle.command.specs.Answer.{Reports, Meets}
+use Rattle.command.specs.Answer.{Reports}
 use Rattle.command.specs.declared.Answer.{Answer}
 use Rattle.command.specs.declared.Answer.the-variants as A
 use Rattle.command.specs.declared.Refusal.{Refusal}
 use Rattle.command.specs.declared.Refusal.the-variants as W
-use Rattle.store.specs.Packed.{Store}
 use Rattle.store.specs.Lent.{storeOf}
 use Rattle.store.specs.declared.Filed.{Filed}
-use Rattle.session.specs.Memory.{Session, packedSession, packedShelf, numberOf}
-use Rattle.session.specs.Outcome.{afterLine}
-use Rattle.session.specs.declared.state.Held.{Held}
-use Rattle.seats.specs.Seats.{flat, numbersOf, lowered, withHeld}
-use Rattle.seats.proofs.Parted.{numbers-length}
-use Rattle.seats.proofs.Gone.{rests-lowered, leaves-lowered}
-use Rattle.call.specs.Call.{Memory, memoryOf}
+use Rattle.session.specs.Memory.{Session}
+use Rattle.call.specs.Call.{Memory}
 use Rattle.call.proofs.Calling.{ReadsFiled}
-use Rattle.lend.specs.Laid.{sessionAt, numbered, laidOut, SeatHears}
-use Rattle.lend.proofs.Seating.{session-own, session-other}
-use Rattle.guard.specs.Guarded.{Frees, Takes, Watching, Guarding, Bars, Guards}
+use Rattle.lend.specs.Laid.{SeatHears}
+use Rattle.guard.specs.Guarded.{Frees, Watching, Guarding, Guards}
 use Rattle.guard.specs.declared.Guard.{Guard}
 use Rattle.guard.specs.declared.Guard.the-variants as G
-use Rattle.tablets.specs.Calls.{packedTablet, packedWith, packedClass, Reached, Warns, HearsLine}
+use Rattle.tablets.specs.Calls.{packedClass, Reached, Warns, HearsLine}
 use Rattle.tablets.proofs.Leading.{hears-on, reached-sane}
-use Rattle.tablets.proofs.Packed.{packed-seated}
 use Rattle.tablets.proofs.Counting.{idle-silent}
-use Rattle.tablets.proofs.Hearing.{laid-alike, withNumbers, free-reply, seated-next, free-count, quiet-hears, reply-quiet}
+use Rattle.tablets.proofs.Hearing.{quiet-hears, reply-quiet}
 use Rattle.tablets.proofs.Leaving.{fault-frees, reached-idle, reached-quiet, answer-frees, idle-files, reached-watches}
 
 -- a refusal that changes nothing

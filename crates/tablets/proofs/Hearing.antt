@@ -1,23 +1,22 @@
 -- A line of one tablet: where nothing is forbidden, what is heard at its seat is what the paper's class hears, the others stay, and the count
 -- of those that print is put right.
-use Prim.Native.Nat.{ℕ, zero, suc, _+_, _-_, _*_, _≤_, _<_}
+use Prim.Native.Nat.{ℕ, _+_, _*_, _≤_, _<_}
 use mathlib.Core.Path.{_≡_, refl, sym, _∙_, ap}
-use mathlib.Core.Bool.{Bool, true, false, true≢false, false≢true}
+use mathlib.Core.Bool.{false}
 use mathlib.Core.List.{List, [], _∷_, _++_}
-use mathlib.Core.Option.{Option, none, some}
+use mathlib.Core.Option.{Option, none}
 use native.Mathlib.Omega.{arith}
 use lib.ListN.{length, getD, set, length-append, List·getD-append}
 use lib.Seq.{getD-at, getD-append-add}
-use lib.Dec.{ltb, eqb}
-use borrow.Author.Tests.{eq-eqb, eqb-true, lt-ltb}
+use lib.Dec.{eqb}
+use borrow.Author.Tests.{lt-ltb}
 use Rattle.paper.specs.Byte.{if_then_else_}
 use Rattle.paper.specs.Line.{kept}
 use Rattle.paper.specs.Command.{Filing}
-use Rattle.paper.specs.Form.{Form}
 use Rattle.paper.specs.Bench as P
-use Rattle.paper.specs.Class.{Tablet, Class, desk, thirty, prints, printers, filingOf, renamed, barred, hearUnless, Reply, seat, tabletOf, reply, hearOf, hearFrom, SaneClass}
+use Rattle.paper.specs.Class.{Class, desk, thirty, prints, printers, filingOf, barred, hearUnless, Reply, seat, reply, hearOf, hearFrom, SaneClass}
 use Rattle.paper.proofs.Test.{either}
-use Rattle.paper.proofs.Apart.{seat-own, seat-other, reply-session}
+use Rattle.paper.proofs.Apart.{seat-own, seat-other, reply-session, free-reply}
 use Rattle.paper.proofs.Changes.{line-changes}
 use Rattle.paper.proofs.Count.{oneIf, reply-count}
 use Rattle.command.specs.View.{width}
@@ -31,8 +30,7 @@ use Rattle.seats.specs.Numbers.{codeOf}
 use Rattle.seats.proofs.Parted.{numbers-alike, numbers-length, middle-set, tag-at}
 use Rattle.seats.proofs.States.{prints-at}
 use Rattle.call.specs.Call.{Memory, memoryOf}
-use Rattle.lend.specs.Laid.{sessionAt, numbered, laidOut, Seated, SeatHears}
-use Rattle.lend.proofs.Seating.{session-own, session-other}
+use Rattle.lend.specs.Laid.{numbered, laidOut, SeatHears}
 use Rattle.guard.specs.Guarded.{Frees}
 use Rattle.tablets.specs.Calls.{packedTablet, packedWith, packedClass, Reached, HearsLine, recounted}
 use Rattle.tablets.proofs.Leading.{hears-on, reached-sane}
@@ -76,41 +74,36 @@ module _ (c : Class) (sane : SaneClass width c) (t : ℕ) (l : t < 30) (s : List
   abbrev filing : Option Filing
   filing = filingOf width (c .tablet t .session) s
 
-  -- where nothing is forbidden the desk decides
-  pub free-reply : barred c t filing ≡ none → hearFrom width room c t s ≡ reply c t (c .last) filing outcome
-  unfolding hearFrom hearOf hearUnless desk thirty if_then_else_
-  free-reply e = rw (lt-ltb t 30 l, e) refl
-
   -- the sessions behind it, where the others stay or follow
   pub seated-next : (others : ℕ → Session) (printing : ℕ)
       → ((j : ℕ) → j < 30 → eqb j t ≡ false → others j ≡ packedTablet (outcome .next .forms) (c .tablet j))
-      → laidOut (packedShelf (outcome .next .forms)) (sessionAt t (packedSession (outcome .next .forms) (afterLine (numberOf (c .tablet t .form) (c .forms)) (c .forms) (c .tablet t .session) (kept s)) (outcome .next .session)) others) (c .last) printing
+      → laidOut (packedShelf (outcome .next .forms)) (seat t (packedSession (outcome .next .forms) (afterLine (numberOf (c .tablet t .form) (c .forms)) (c .forms) (c .tablet t .session) (kept s)) (outcome .next .session)) others) (c .last) printing
       ≡ packedWith (reply c t (c .last) filing outcome .next) printing
   unfolding packedWith reply
   seated-next others printing e =
       laid-alike _ _ _ (c .last) printing
       (λ j b. either (eqb j t)
-      (λ y. session-own t _ others j y ∙ own-packed room (c .forms) (c .tablet t .session) (c .tablet t .form) s ∙ ap (packedTablet (outcome .next .forms)) (sym (seat-own t _ (c .tablet) j y)))
-      (λ n. session-other t _ others j n ∙ e j b n ∙ ap (packedTablet (outcome .next .forms)) (sym (seat-other t _ (c .tablet) j n))))
+      (λ y. seat-own t _ others j y ∙ own-packed room (c .forms) (c .tablet t .session) (c .tablet t .form) s ∙ ap (packedTablet (outcome .next .forms)) (sym (seat-own t _ (c .tablet) j y)))
+      (λ n. seat-other t _ others j n ∙ e j b n ∙ ap (packedTablet (outcome .next .forms)) (sym (seat-other t _ (c .tablet) j n))))
 
   -- where nothing is forbidden and no form leaves that others hold, they stay
   free-next : Frees c t filing → (printing : ℕ)
-      → laidOut (packedShelf (outcome .next .forms)) (sessionAt t (packedSession (outcome .next .forms) (afterLine (numberOf (c .tablet t .form) (c .forms)) (c .forms) (c .tablet t .session) (kept s)) (outcome .next .session)) (λ j. packedTablet (c .forms) (c .tablet j))) (c .last) printing
+      → laidOut (packedShelf (outcome .next .forms)) (seat t (packedSession (outcome .next .forms) (afterLine (numberOf (c .tablet t .form) (c .forms)) (c .forms) (c .tablet t .session) (kept s)) (outcome .next .session)) (λ j. packedTablet (c .forms) (c .tablet j))) (c .last) printing
       ≡ packedWith (hearFrom width room c t s .next) printing
   free-next free printing =
       seated-next (λ j. packedTablet (c .forms) (c .tablet j)) printing
       (λ j b n. sym (others-stay c t filing sane j b n (c .tablet t .session) (outcome .next .forms) (outcome .next .session) (line-changes width room (c .forms) (c .tablet t .session) s) free))
-      ∙ ap (λ (x : Reply). packedWith (x .next) printing) (sym (free-reply (free .free)))
+      ∙ ap (λ (x : Reply). packedWith (x .next) printing) (sym (free-reply width c t l s room (free .free)))
 
   -- how many print behind it
   pub free-count : barred c t filing ≡ none → printers (hearFrom width room c t s .next) + oneIf (prints (c .tablet t .session)) ≡ printers c + oneIf (prints (hearFrom width room c t s .next .tablet t .session))
   unfolding printers thirty
-  free-count e = rw (free-reply e, reply-session c t (c .last) filing outcome) (reply-count prints c t (c .last) filing outcome l)
+  free-count e = rw (free-reply width c t l s room e, reply-session c t (c .last) filing outcome) (reply-count prints c t (c .last) filing outcome l)
 
   -- what its tablet's session is then
   pub reply-quiet : barred c t filing ≡ none → prints (outcome .next .session) ≡ prints (c .tablet t .session)
       → prints (hearFrom width room c t s .next .tablet t .session) ≡ prints (c .tablet t .session)
-  reply-quiet e q = ap (λ (x : Reply). prints (x .next .tablet t .session)) (free-reply e) ∙ ap prints (reply-session c t (c .last) filing outcome) ∙ q
+  reply-quiet e q = ap (λ (x : Reply). prints (x .next .tablet t .session)) (free-reply width c t l s room e) ∙ ap prints (reply-session c t (c .last) filing outcome) ∙ q
 
 -- the numbers of thirty sessions with the two behind them
 module _ (f : ℕ → Session) (last printing : ℕ) where
@@ -164,7 +157,7 @@ module _ (self : Memory) (t : ℕ) (l : t < 30) (s old : List ℕ) (mid : Memory
   -- the answer
   seat-meets : (k : Reached self) → Meets (hearFrom width (length old) (k .class) t s .answer) old new r
   unfolding reply
-  seat-meets k = rw (free-reply (k .class) (reached-sane self k) t l s (length old) (free k .free)) (h .meets _ _ _ _ _ _ (packed-seated self k t l))
+  seat-meets k = rw (free-reply width (k .class) t l s (length old) (free k .free)) (h .meets _ _ _ _ _ _ (packed-seated self k t l))
 
   -- and the memory, but that it is not counted yet how many print
   pub seat-leaves : (k : Reached self) → mid ≡ packedWith (hearFrom width (length old) (k .class) t s .next) (printers (k .class))

@@ -3,21 +3,16 @@ use Prim.Native.Nat.{ℕ}
 use mathlib.Core.Path.{_≡_, refl, sym, _∙_, ap}
 use mathlib.Core.List.{List, [], _∷_, _++_}
 use Rattle.paper.specs.Class.{Class, beginClass, Request, sends, fetches, hearFrom, takeNext, replyTo, classAfter, SaneClass}
+use Rattle.paper.proofs.Apart.{calls-append}
 use Rattle.paper.proofs.HeldOpen.{led-class-sane}
 use Rattle.command.specs.View.{width}
 use Rattle.call.specs.Call.{Memory}
 use Rattle.tablets.specs.Calls.{packedClass, Reached, Begins, Counts}
 
--- calls behind calls
-after-more : (c : Class) (qs rs : List Request) → classAfter width c (qs ++ rs) ≡ classAfter width (classAfter width c qs) rs
-unfolding classAfter
-after-more c [] rs = refl
-after-more c (q ∷ qs) rs = after-more (replyTo width c q .next) qs rs
-
 -- one call more
 pub led-on : (c : Class) (qs : List Request) (q : Request) → c ≡ classAfter width beginClass qs → replyTo width c q .next ≡ classAfter width beginClass (qs ++ (q ∷ []))
 unfolding classAfter
-led-on c qs q e = ap (λ d. replyTo width d q .next) e ∙ sym (after-more beginClass qs (q ∷ []))
+led-on c qs q e = ap (λ d. replyTo width d q .next) e ∙ sym (calls-append width beginClass qs (q ∷ []))
 
 -- a line
 unfoldable pub hears-on : (self : Memory) (k : Reached self) (next : Memory) (t room : ℕ) (s : List ℕ) → next ≡ packedClass (hearFrom width room (k .class) t s .next) → Reached next

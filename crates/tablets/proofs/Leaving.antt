@@ -1,27 +1,27 @@
 -- Which lines the others leave alone, and what they make of the rest: from the tests of the code to what the paper asks of a class.
-use Prim.Native.Nat.{ℕ, _+_, _*_, _≤_, _<_}
-use mathlib.Core.Path.{_≡_, refl, sym, _∙_, ap, subst}
+use Prim.Native.Nat.{ℕ, _*_, _<_}
+use mathlib.Core.Path.{_≡_, refl, sym, _∙_, ap}
 use mathlib.Core.Bool.{Bool, true, false, not, _&&_, true≢false, false≢true}
-use mathlib.Core.List.{List, [], _∷_, _++_}
+use mathlib.Core.List.{List}
 use mathlib.Core.Option.{Option, none, some}
 use native.Mathlib.Omega.{arith}
 use lib.ListN.{length, take, getD}
 use lib.Seq.{take-at, length-take-le}
-use lib.Dec.{ltb, eqb}
-use borrow.Author.Tests.{eq-eqb, eqb-true, eqb-false, ne-eqb}
-use Rattle.paper.specs.Byte.{if_then_else_, every}
+use lib.Dec.{eqb}
+use borrow.Author.Tests.{eq-eqb, eqb-true, eqb-false}
+use Rattle.paper.specs.Byte.{every}
 use Rattle.paper.specs.Line.{kept, long, control}
-use Rattle.paper.specs.Command.{isShown, FormLine, Filing, delete}
+use Rattle.paper.specs.Command.{isShown, Filing}
 use Rattle.paper.specs.Read.{read, unread}
-use Rattle.paper.specs.Refusal.{Refusal, noTablet, tooLong, controlByte, refused, othersCollect, heldOpen}
+use Rattle.paper.specs.Refusal.{tooLong}
 use Rattle.paper.specs.Form.{Form}
 use Rattle.paper.specs.Bench as P
-use Rattle.paper.specs.Class.{Class, atRest, prints, filingRead, filingOf, barred, desk, hearUnless, Reply, reply, denied, hearOf, hearFrom, thirty, SaneClass}
-use Rattle.paper.proofs.Law.{by-test, if-true, if-false}
+use Rattle.paper.specs.Class.{Class, atRest, prints, filingRead, filingOf, hearFrom}
+use Rattle.paper.proofs.Law.{by-test, if-true}
 use Rattle.paper.proofs.Test.{either}
 use Rattle.paper.proofs.Text.{clear-control, clear-between}
-use Rattle.paper.proofs.Dropped.{kept-clear, kept-stays, stays-kept, stays-take}
-use Rattle.paper.proofs.Long.{read-first}
+use Rattle.paper.proofs.Dropped.{kept-clear}
+use Rattle.paper.proofs.Long.{read-first, line-first}
 use Rattle.paper.proofs.Others.{barred-none, busy-files, some-none}
 use Rattle.command.specs.View.{width}
 use Rattle.command.specs.declared.Answer.{Answer}
@@ -31,18 +31,16 @@ use Rattle.store.specs.Lent.{storeOf}
 use Rattle.store.specs.declared.Filed.{Filed}
 use Rattle.session.specs.Memory.{Session, drafting, drafts, holding, holds, packedSession, packedShelf, entriesOf, numberOf}
 use Rattle.listen.specs.Waiting.{Waits}
-use Rattle.listen.proofs.Hearing.{heard-waits}
-use Rattle.line.proofs.Filing.{Leads, read-leads}
+use Rattle.line.proofs.Filing.{read-leads}
 use Rattle.seats.specs.Numbers.{codeOf, filedIn}
-use Rattle.seats.specs.Seats.{numbersOf}
 use Rattle.seats.proofs.Parted.{numbers-length}
 use Rattle.call.specs.Call.{Memory}
 use Rattle.call.proofs.Calling.{ReadsFiled}
 use Rattle.lend.specs.Laid.{numbered, laidOut}
-use Rattle.guard.specs.Guarded.{Harmless, Frees, Watches, Watching}
+use Rattle.guard.specs.Guarded.{Frees, Watches}
 use Rattle.tablets.specs.Calls.{packedTablet, packedWith, packedClass, Reached, HearsLine}
 use Rattle.tablets.proofs.Leading.{reached-sane}
-use Rattle.tablets.proofs.Counting.{idle-silent, answering-silent}
+use Rattle.tablets.proofs.Counting.{answering-silent}
 use Rattle.tablets.proofs.Hearing.{with-held, numbered-tag, numbered-length}
 
 -- a line without control bytes is kept whole
@@ -168,28 +166,8 @@ module _ (self : Memory) (k : Reached self) (t : ℕ) (l : t < 30) where
       }
 
 -- what waits of a line is heard as the line
-waits-read : (s line : List ℕ) (n : ℕ) → Waits (kept s) line n → read width (kept (take n line)) ≡ read width (kept s)
-waits-read s line n w =
-    ap (λ x. read width (kept x)) (w .front)
-    ∙ ap (read width) (kept-stays (take 257 (kept s)) (stays-take 257 (kept s) (stays-kept s)))
-    ∙ read-first width (kept s)
-
-waits-files : (st : P.Session) (s line : List ℕ) (n : ℕ) → Waits (kept s) line n → filingOf width st (take n line) ≡ filingOf width st s
-unfolding filingOf
-waits-files st s line n w = ap (λ r. if atRest st then filingRead r else none) (waits-read s line n w)
-
-waits-unless : (o : Option Refusal) (room : ℕ) (b : P.Bench) (s line : List ℕ) (n : ℕ) → Waits (kept s) line n → hearUnless o width room b (take n line) ≡ hearUnless o width room b s
-unfolding hearUnless
-waits-unless none room b s line n w = heard-waits room b s line n w
-waits-unless (some r) room b s line n w = refl
-
 waits-from : (room : ℕ) (c : Class) (t : ℕ) (s line : List ℕ) (n : ℕ) → Waits (kept s) line n → hearFrom width room c t (take n line) ≡ hearFrom width room c t s
-unfolding hearFrom hearOf
-waits-from room c t s line n w =
-    let f : Option Filing = filingOf width (c .tablet t .session) s in
-    ap (λ (x : Reply). if ltb t thirty then x else denied noTablet c)
-    (ap (λ g. reply c t (c .last) g (hearUnless (barred c t g) width room (desk c t) (take n line))) (waits-files (c .tablet t .session) s line n w)
-    ∙ ap (reply c t (c .last) f) (waits-unless (barred c t f) room (desk c t) s line n w))
+waits-from room c t s line n w = ap (hearFrom width room c t) (w .front) ∙ line-first width room c t s
 
 pub hears-waiting : (self : Memory) (t : ℕ) (s line : List ℕ) (n : ℕ) (old : List ℕ) (next : Memory) (new : List ℕ) (r : Answer) → Waits (kept s) line n → HearsLine self t (take n line) old next new r → HearsLine self t s old next new r
 hears-waiting self t s line n old next new r w h =

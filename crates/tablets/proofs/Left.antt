@@ -122,8 +122,8 @@ left-none (P.answering ls given) e = refl
 left-none (P.ready ls given) e = refl
 left-none (P.printing ls given k c i) e = absurd (true≢false e)
 
--- `P` asks for at most 65,535
-left-few : (fs : List Form) (st : P.Session) → Sound width fs st → toTake st ≤ 65535
+-- `P` asks for at most 65,535 sets, so no more are ever left
+pub left-few : (fs : List Form) (st : P.Session) → Sound width fs st → toTake st ≤ 65535
 unfolding toTake
 left-few fs P.idle h = omega arith
 left-few fs (P.collecting name ls) h = omega arith

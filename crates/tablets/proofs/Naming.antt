@@ -1,17 +1,17 @@
 -- The number of the form that a tablet holds open is that of its name: behind a line too.
-use mathlib.Core.Path.{_≡_, refl, sym, _∙_, ap}
-use mathlib.Core.Bool.{Bool, true, false, true≢false}
+use mathlib.Core.Path.{_≡_, refl, sym}
+use mathlib.Core.Bool.{false, true≢false}
 use mathlib.Core.List.{List, []}
-use mathlib.Core.Option.{Option, none, some}
+use mathlib.Core.Option.{none, some}
 use Prim.Native.Nat.{ℕ}
 use Rattle.paper.specs.Byte.{if_then_else_}
 use Rattle.paper.specs.Line.{kept}
-use Rattle.paper.specs.Command.{Filing, start, finish, inform, recall, delete, Command, empty, new, keep, file, ask, print}
+use Rattle.paper.specs.Command.{Filing, start, finish, inform, recall, delete, empty, new, keep, file, ask, print}
 use Rattle.paper.specs.Read.{Reading, command, unread, read}
 use Rattle.paper.specs.Form.{Form, isSome}
-use Rattle.paper.specs.Bench.{Session, idle, collecting, spoiled, opened, answering, ready, printing, Bench, Outcome, hear}
-use Rattle.paper.specs.Class.{Tablet, atRest, openLines, holdsForm, filingRead, filingOf, renamed, tabletOf}
-use Rattle.paper.proofs.Law.{if-true, if-false}
+use Rattle.paper.specs.Bench.{Session, idle, collecting, spoiled, opened, answering, ready, printing, Outcome, hear}
+use Rattle.paper.specs.Class.{atRest, openLines, holdsForm, filingRead, filingOf, renamed, tabletOf}
+use Rattle.paper.proofs.Law.{if-true}
 use Rattle.paper.proofs.Test.{either}
 use Rattle.paper.proofs.Changes.{holding-keeps}
 use Rattle.command.specs.View.{width}

@@ -5,18 +5,17 @@ use mathlib.Core.List.{List}
 use mathlib.Core.Option.{Option, none, some}
 use Prim.Native.Nat.{ℕ, _<_}
 use lib.Dec.{eqb}
-use Rattle.paper.specs.Byte.{if_then_else_, same}
+use Rattle.paper.specs.Byte.{same}
 use Rattle.paper.specs.Command.{FormLine, Filing, delete, star}
 use Rattle.paper.specs.Form.{Form, find, stored}
 use Rattle.paper.specs.Bench.{Session, deleted}
-use Rattle.paper.specs.Class.{Class, holdsForm, another, strikes, SaneClass}
+use Rattle.paper.specs.Class.{Class, holdsForm, strikes, SaneClass}
 use Rattle.paper.proofs.Law.{if-false}
 use Rattle.paper.proofs.Test.{either}
 use Rattle.paper.proofs.Store.{without-absent}
 use Rattle.paper.proofs.Others.{may-strike, each-other}
 use Rattle.paper.proofs.Changes.{Changes, as-before, joined, struck}
 use Rattle.command.specs.View.{width}
-use Rattle.session.specs.Memory.{packedSession, numberOf}
 use Rattle.seats.proofs.Gone.{rests-alike}
 use Rattle.seats.proofs.Joining.{joins-alike}
 use Rattle.guard.specs.Guarded.{Harmless, absent, unheld, Frees}

@@ -12,9 +12,10 @@ use borrow.Author.Tests.{eq-eqb}
 use Rattle.paper.specs.Form.{Form}
 use Rattle.paper.specs.Refusal as R
 use Rattle.paper.specs.Bench as P
-use Rattle.paper.specs.Class.{Class, desk, thirty, prints, printers, holdsForm, renamed, Reply, tabletOf, reply, denied, firstAfter, turn, lastAfter, serve, takeNext}
+use Rattle.paper.specs.Class.{Class, desk, thirty, prints, printers, holdsForm, renamed, Reply, seat, tabletOf, reply, denied, firstAfter, turn, lastAfter, serve, takeNext}
 use Rattle.paper.proofs.Law.{by-test, if-true}
 use Rattle.paper.proofs.Test.{either}
+use Rattle.paper.proofs.Invariant.{take-forms}
 use Rattle.paper.proofs.Apart.{seat-own, seat-other, reply-session}
 use Rattle.paper.proofs.ClassRefused.{take-untouched}
 use Rattle.paper.proofs.Count.{oneIf, nobody-prints, served-again, reply-count}
@@ -33,8 +34,7 @@ use Rattle.seats.proofs.Gone.{rests-alike}
 use Rattle.seats.proofs.Others.{turn-printing}
 use Rattle.seats.proofs.Parted.{numbers-length}
 use Rattle.call.specs.Call.{Memory}
-use Rattle.lend.specs.Laid.{sessionAt, numbered, laidOut, Sits, SeatTakes}
-use Rattle.lend.proofs.Seating.{session-own, session-other}
+use Rattle.lend.specs.Laid.{numbered, laidOut, Sits, SeatTakes}
 use Rattle.tablets.specs.Calls.{packedTablet, packedWith, packedClass, Reached, recounted, Counts, TakesSet}
 use Rattle.tablets.proofs.Leading.{takes-on, reached-counts}
 use Rattle.tablets.proofs.Naming.{open-none}
@@ -91,28 +91,17 @@ taken-packed fs form st =
     (λ y. rw (if-true {A = List ℕ} (holdsForm st) form [] y))
     (λ n. rests-alike _ _ _ _ st (open-none st n))
 
--- a take leaves the store
-taken-forms : (room : ℕ) (fs : List Form) (st : P.Session) → P.takeSet room (record { forms = fs; session = st }) .next .forms ≡ fs
-unfolding P.takeSet P.taken P.outcome P.replied
-taken-forms room fs P.idle = refl
-taken-forms room fs (P.collecting name ls) = refl
-taken-forms room fs P.spoiled = refl
-taken-forms room fs (P.opened ls) = refl
-taken-forms room fs (P.answering ls given) = refl
-taken-forms room fs (P.ready ls given) = refl
-taken-forms room fs (P.printing ls given n c i) = by-test (λ (o : P.Outcome). o .next .forms ≡ fs) _ _ _ (λ y. refl) (λ m. refl)
-
 -- the sessions behind a take: one that is changed at its seat, and the others
 taken-laid : (c : Class) (t : ℕ) (o : P.Outcome) (last printing : ℕ) → o .next .forms ≡ c .forms
-    → laidOut (packedShelf (c .forms)) (sessionAt t (packedSession (c .forms) (numberOf (c .tablet t .form) (c .forms)) (o .next .session)) (λ j. packedTablet (c .forms) (c .tablet j))) last printing
+    → laidOut (packedShelf (c .forms)) (seat t (packedSession (c .forms) (numberOf (c .tablet t .form) (c .forms)) (o .next .session)) (λ j. packedTablet (c .forms) (c .tablet j))) last printing
     ≡ packedWith (reply c t last none o .next) printing
 unfolding packedWith reply renamed
 taken-laid c t o last printing e =
     rw e
     (laid-alike _ _ _ last printing
     (λ j b. either (eqb j t)
-    (λ y. session-own t _ _ j y ∙ taken-packed (c .forms) (c .tablet t .form) (o .next .session) ∙ ap (packedTablet (c .forms)) (sym (seat-own t _ (c .tablet) j y)))
-    (λ n. session-other t _ _ j n ∙ ap (packedTablet (c .forms)) (sym (seat-other t _ (c .tablet) j n)))))
+    (λ y. seat-own t _ _ j y ∙ taken-packed (c .forms) (c .tablet t .form) (o .next .session) ∙ ap (packedTablet (c .forms)) (sym (seat-own t _ (c .tablet) j y)))
+    (λ n. seat-other t _ _ j n ∙ ap (packedTablet (c .forms)) (sym (seat-other t _ (c .tablet) j n)))))
 
 -- another tablet served last
 served-held : (c : Class) (t last : ℕ) (o : P.Outcome) (printing : ℕ) → set (packedWith (reply c t last none o .next) printing .held) 300 t ≡ packedWith (reply c t t none o .next) printing .held
@@ -187,7 +176,7 @@ module _ (self : Memory) (t : ℕ) (turned : (k : Counts (self .held)) → t ≡
       seat-leaves : (k : Reached self) → mid ≡ packedWith (reply (k .class) t (k .class .last) none (taken k) .next) (printers (k .class))
       seat-leaves k =
           h .leaves _ _ _ _ _ _ (packed-seated self k t (turned-below k))
-          ∙ taken-laid (k .class) t (taken k) (k .class .last) (printers (k .class)) (taken-forms (length old) (k .class .forms) (k .class .tablet t .session))
+          ∙ taken-laid (k .class) t (taken k) (k .class .last) (printers (k .class)) (take-forms (length old) (k .class .forms) (k .class .tablet t .session))
 
       -- REFUSED: nothing changes
       pub refused-takes : (why : Refusal) → r ≡ A.Refused why → Reached self → TakesSet self old mid new t r

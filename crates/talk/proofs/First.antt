@@ -5,27 +5,22 @@ use Prim.Native.Nat.{ℕ, zero, suc, _+_, _-_, _*_, _≤_, _<_}
 use mathlib.Core.Path.{_≡_, refl, sym, _∙_, ap}
 use mathlib.Core.Bool.{Bool, true, false}
 use mathlib.Core.List.{List, [], _∷_}
-use mathlib.Core.Option.{Option, none, some}
 use native.Mathlib.Nat.{add-suc}
 use native.Mathlib.Omega.{arith}
 use native.Mathlib.Decide.{decLt}
-use lib.Dec.{ltb, eqb}
+use lib.Dec.{eqb}
 use lib.ListN.{length, take, length-take}
 use lib.Seq.{take-nil, take-all, take-take}
-use borrow.Author.Tests.{ltb-true, ltb-false, lt-ltb}
 use Rattle.paper.specs.Byte.{bytes, if_then_else_, every}
-use Rattle.paper.specs.Line.{Got, got, bad, Reader, followed, give, ended, one, byte, isDigit, digit, moreDigits, number, long, kept}
-use Rattle.paper.specs.Refusal.{Refusal}
-use Rattle.paper.specs.Read.{these, read}
-use Rattle.paper.specs.Bench.{Session, Bench, hear}
+use Rattle.paper.specs.Line.{Got, got, bad, Reader, followed, give, ended, one, byte, isDigit, digit, moreDigits, number, kept}
+use Rattle.paper.specs.Read.{these}
 use Rattle.paper.specs.Program.{enough}
-use Rattle.paper.specs.Class.{Class, desk, filingOf, barred, hearUnless, hearOf, hearFrom, Request, sends, fetches, replyTo}
+use Rattle.paper.specs.Class.{Class, hearFrom, Request, sends, fetches, replyTo}
 use Rattle.paper.specs.ClassProgram.{remaining, tabletLine, roomOf, takeLine, callIn, askedIn, replyFor}
-use Rattle.paper.proofs.Law.{if-true, and-right}
-use Rattle.paper.proofs.Test.{either}
+use Rattle.paper.proofs.Law.{and-right}
 use Rattle.paper.proofs.Part.{orElse-bad}
 use Rattle.paper.proofs.Dropped.{stays, kept-stays, stays-take}
-use Rattle.paper.proofs.Long.{hear-first}
+use Rattle.paper.proofs.Long.{line-first}
 
 -- a property of what digits read from all of a line and from its front
 more-front : (K : Got ℕ → Got ℕ → Type 0) (k n m : ℕ) (s : List ℕ) → every stays s ≡ true
@@ -73,37 +68,11 @@ tablet-front K m s e z f =
         go true h = rw (one-more, h) (f v q line (and-right (stays c) (every stays line) k))
         go false h = rw (one-more, h) z
 
--- a line is read by its front of 257 bytes or more
-read-front : (width j : ℕ) (s : List ℕ) → 257 ≤ j → read width (take j s) ≡ read width s
-unfolding read long
-read-front width j s h =
-    either (ltb 256 (length s))
-    (λ y.
-    let still : ltb 256 (length (take j s)) ≡ true = lt-ltb 256 (length (take j s)) (omega (arith, length-take j s, ltb-true 256 (length s) y)) in
-    if-true _ _ _ still ∙ sym (if-true _ _ _ y))
-    (λ n. rw (take-all j s (omega (arith, ltb-false 256 (length s) n))))
-
--- and so is what it means to the others
-filing-front : (width j : ℕ) (st : Session) (s : List ℕ) → every stays s ≡ true → 257 ≤ j → filingOf width st (take j s) ≡ filingOf width st s
-unfolding filingOf
-filing-front width j st s e h = rw (kept-stays (take j s) (stays-take j s e), kept-stays s e, read-front width j s h)
-
--- it is heard by that front
-hear-front : (width room j : ℕ) (b : Bench) (s : List ℕ) → every stays s ≡ true → 257 ≤ j → hear width room b (take j s) ≡ hear width room b s
-hear-front width room j b s e h =
-    let part : take 257 (kept (take j s)) ≡ take 257 (kept s) = rw (kept-stays (take j s) (stays-take j s e), kept-stays s e) (take-take 257 j s h) in
-    sym (hear-first width room b (take j s)) ∙ ap (hear width room b) part ∙ hear-first width room b s
-
-unless-front : (r : Option Refusal) (width room j : ℕ) (b : Bench) (s : List ℕ) → every stays s ≡ true → 257 ≤ j → hearUnless r width room b (take j s) ≡ hearUnless r width room b s
-unfolding hearUnless
-unless-front none width room j b s e h = hear-front width room j b s e h
-unless-front (some r) width room j b s e h = refl
-
--- a tablet's line too
+-- a tablet's line is heard by its front of 257 bytes or more
 from-front : (width room j : ℕ) (c : Class) (t : ℕ) (s : List ℕ) → every stays s ≡ true → 257 ≤ j → hearFrom width room c t (take j s) ≡ hearFrom width room c t s
-unfolding hearFrom hearOf
 from-front width room j c t s e h =
-    rw (filing-front width j (c .tablet t .session) s e h, unless-front (barred c t (filingOf width (c .tablet t .session) s)) width room j (desk c t) s e h)
+    let part : take 257 (kept (take j s)) ≡ take 257 (kept s) = rw (kept-stays (take j s) (stays-take j s e), kept-stays s e) (take-take 257 j s h) in
+    sym (line-first width room c t (take j s)) ∙ ap (hearFrom width room c t) part ∙ line-first width room c t s
 
 -- two parts, of which the second is never there behind the first
 never : {A B : Type 0} (g : Got A) (f : A → Reader B) → ((a : A) (r : List ℕ) → g ≡ got a r → f a r ≡ bad) → followed g f ≡ bad

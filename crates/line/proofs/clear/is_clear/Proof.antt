@@ -1,7 +1,5 @@
 -- `is_clear` holds where the clear part of a line is all of it; else a control byte stands behind that part.
-use mathlib.Core.Path.{sym}
 use native.Mathlib.Omega.{arith}
-use borrow.Author.Needs.{needs}
 use borrow.Author.Tests.{eqb-true, eqb-false}
 use Rattle.line.proofs.Control.{clear-whole, clear-short}
 use Rattle.line.proofs.clear.is_clear.Statement.{statement}

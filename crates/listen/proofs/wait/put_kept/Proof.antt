@@ -1,8 +1,6 @@
 -- Byte by byte: dropped, kept, or beyond what is looked at.
 use Prim.Native.Nat.{_-_}
-use mathlib.Core.List.{_∷_}
 use lib.ListN.{length}
-use native.Mathlib.Omega.{arith}
 use borrow.Author.Needs.{needs}
 use Rattle.listen.proofs.Keeping.{Keeping, keeping-begins, keeping-cr, keeping-eof, keeping-more, keeping-full, keeping-ends}
 use Rattle.listen.proofs.wait.put_kept.Statement.{statement}

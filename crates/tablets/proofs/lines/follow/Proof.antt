@@ -1,7 +1,6 @@
 -- The numbers of the sessions are lent, and the two behind them stay.
-use mathlib.Core.Path.{_≡_, refl, sym, _∙_}
+use mathlib.Core.Path.{sym, _∙_}
 use native.Mathlib.Omega.{arith}
-use borrow.Author.Needs.{needs}
 use Rattle.tablets.proofs.Leaving.{front-length}
 use Rattle.tablets.proofs.Following.{follows-numbered, follows-length}
 use Rattle.tablets.proofs.lines.follow.Statement.{statement}

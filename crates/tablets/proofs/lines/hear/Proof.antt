@@ -1,5 +1,4 @@
 -- It is seen whether the line is free of bytes below 20H.
-use mathlib.Core.Path.{_≡_, refl, sym, _∙_}
 use borrow.Author.Needs.{needs}
 use Rattle.tablets.proofs.lines.hear.Statement.{statement}
 use Rattle.tablets.proofs.lines.hear.Tie as tie

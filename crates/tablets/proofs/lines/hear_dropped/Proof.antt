@@ -1,5 +1,5 @@
 -- What is left of the line is heard as the line, or tells that it is refused.
-use mathlib.Core.Path.{_≡_, refl, sym, _∙_}
+use mathlib.Core.Path.{refl}
 use borrow.Author.Needs.{needs}
 use Rattle.listen.proofs.Hearing.{waiting-none, waits-kept, kept-inside, kept-counts}
 use Rattle.tablets.proofs.Packed.{packed-sits}

@@ -1,5 +1,5 @@
 -- What the others make of the line decides: it is heard at its seat, refused, or heard and followed.
-use mathlib.Core.Path.{_≡_, refl, sym, _∙_}
+use mathlib.Core.Path.{refl, sym, _∙_}
 use borrow.Author.Needs.{needs}
 use Rattle.tablets.proofs.Packed.{packed-sits}
 use Rattle.tablets.proofs.Leaving.{reached-whole, zero-four}

@@ -1,5 +1,5 @@
 -- No such tablet is refused; a line with bytes below 20H goes its own way; the rest is as for a line without them.
-use mathlib.Core.Path.{_≡_, refl, sym, _∙_}
+use mathlib.Core.Path.{refl, sym, _∙_}
 use native.Mathlib.Omega.{arith}
 use borrow.Author.Needs.{needs}
 use Rattle.tablets.proofs.Packed.{packed-sits}

@@ -1,5 +1,5 @@
 -- An answer is heard at its seat, a line to the store as the others let it, and behind any other it is counted who prints.
-use mathlib.Core.Path.{_≡_, refl, sym, _∙_}
+use mathlib.Core.Path.{refl, sym, _∙_}
 use borrow.Author.Needs.{needs}
 use Rattle.tablets.proofs.Packed.{packed-sits}
 use Rattle.tablets.proofs.Leaving.{reached-whole, tag-within, files-idle, order-frees}

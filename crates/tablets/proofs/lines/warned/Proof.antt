@@ -1,6 +1,4 @@
 -- The store and the sessions are those of every class whose memory this is.
-use mathlib.Core.Path.{_≡_, refl, sym, _∙_}
-use borrow.Author.Needs.{needs}
 use Rattle.tablets.proofs.Leaving.{reached-whole, reached-two, front-length}
 use Rattle.tablets.proofs.Forbidding.{warns-by, warned-watching}
 use Rattle.tablets.proofs.lines.warned.Statement.{statement}

@@ -1,4 +1,5 @@
 """Runs of a program on a stream, and what they give."""
+import concurrent.futures
 import os
 import resource
 import subprocess
@@ -29,6 +30,15 @@ def outcome(command, text):
         out.seek(0)
         err.seek(0)
         return status, out.read(), err.read()
+
+
+def on_both_cores(what, jobs, at_once=1):
+    """What each job gives, in their order. Who asks for no more waits for those that run: nothing is killed in the middle of a message."""
+    with concurrent.futures.ProcessPoolExecutor(2) as pool:
+        try:
+            yield from pool.map(what, jobs, chunksize=at_once)
+        finally:
+            pool.shutdown(cancel_futures=True)
 
 
 def first_difference(one, other):

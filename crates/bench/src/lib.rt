@@ -3,11 +3,11 @@ ghost use Rattle.tablets.specs.Calls.{Reached, Begins, HearsLine, TakesSet, Set
 ghost use Rattle.program.specs.Pass.{Starting};
 ghost use Rattle.bench.specs.Whole.{memory};
 use command::Answer;
+use desk::hear;
 use program::run;
 use tablets::counts::LAST;
 use tablets::counts::all_left;
 use tablets::counts::sets_left;
-use tablets::lines::hear;
 use tablets::sets::Served;
 use tablets::sets::take;
 

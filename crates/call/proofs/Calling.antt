@@ -23,7 +23,7 @@ use Rattle.session.specs.declared.state.Held.{Held}
 use Rattle.session.specs.declared.state.Turn.{Turn}
 use Rattle.session.specs.declared.state.Mode.{Mode}
 use Rattle.session.specs.declared.state.Mode.the-variants as M
-use Rattle.listen.specs.Waiting.{Waits, faultOf}
+use Rattle.wait.specs.Waiting.{Waits, faultOf}
 use Rattle.listen.proofs.Hearing.{hears-shown, kept-fault, heard-waits, after-waits}
 use Rattle.call.proofs.Leading.{hears-on, takes-on}
 

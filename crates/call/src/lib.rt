@@ -5,13 +5,12 @@ ghost use mathlib.Core.List.{List};
 ghost use lib.ListN.{getD, take};
 ghost use Prim.Native.Nat.{ℕ};
 ghost use Rattle.paper.specs.Line.{kept, control};
-ghost use Rattle.listen.specs.Waiting.{Waits};
+ghost use Rattle.wait.specs.Waiting.{Waits};
 ghost use Rattle.paper.specs.Byte.{every};
 ghost use Rattle.paper.specs.Command.{isShown};
 ghost use Rattle.call.specs.Call.{memoryOf, Reached, HearsLine, TakesSet};
 use command::Answer;
 use listen::obey::listen;
-use listen::wait::fault_of;
 use printing::answer::answer;
 use printing::print::take_next;
 use seats::numbers::filed_of;
@@ -19,6 +18,7 @@ use seats::numbers::held_of;
 use seats::numbers::put_filed;
 use seats::numbers::put_held;
 use session::state::refuse;
+use wait::fault_of;
 
 // A line without control bytes where an answer is asked for.
 pub fn hear_answer(

@@ -7,10 +7,10 @@ use crate::show::say_number;
 use crate::show::show;
 use crate::show::show_answer;
 use command::Answer;
+use desk::hear;
 use line::read::read_line;
 use normal::write::write_line;
 use tablets::counts::sets_left;
-use tablets::lines::hear;
 use tablets::sets::take;
 
 // The tablet that plays the script, with the bench to itself.

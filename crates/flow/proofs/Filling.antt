@@ -21,7 +21,7 @@ use Rattle.command.specs.View.{width}
 use Rattle.text.specs.Place.{from}
 use Rattle.text.proofs.Written.{writes-none, writes-then, writes-length}
 use Rattle.call.specs.Call.{Memory}
-use Rattle.listen.specs.Waiting.{Waiting, Comes}
+use Rattle.wait.specs.Waiting.{Waiting, Comes}
 use Rattle.tablets.specs.Calls.{leftOf, SetsLeft}
 use Rattle.tablets.proofs.Leading.{reached-counts}
 use Rattle.tablets.proofs.Left.{left-few}

@@ -24,7 +24,7 @@ use Rattle.text.specs.Place.{from}
 use Rattle.line.specs.Shown.{clearPart}
 use Rattle.line.proofs.Control.{clear-take, clear-shown}
 use Rattle.form.specs.Walk.{firstLine}
-use Rattle.listen.specs.Waiting.{Waits, Waiting, Comes}
+use Rattle.wait.specs.Waiting.{Waits, Waiting, Comes}
 use Rattle.flow.specs.Fill.{Clear, Gathered, lineBy}
 
 -- LF is not shown

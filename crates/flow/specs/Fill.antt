@@ -15,7 +15,7 @@ use Rattle.text.specs.Place.{from}
 use Rattle.text.specs.Write.{Writes}
 use Rattle.form.specs.Walk.{firstLine}
 use Rattle.call.specs.Call.{Memory}
-use Rattle.listen.specs.Waiting.{Waits, Comes}
+use Rattle.wait.specs.Waiting.{Waits, Comes}
 use Rattle.reports.specs.Said.{Lone}
 use Rattle.flow.specs.Emit.{Standing, joined, after, emit}
 use Rattle.flow.specs.declared.fill.Run.{Run}

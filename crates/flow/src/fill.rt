@@ -3,16 +3,16 @@ ghost use Prim.Native.Nat.{_+_, _-_, _^_, _<_, _≤_};
 ghost use mathlib.Core.Path.{_≡_};
 ghost use lib.ListN.{length};
 ghost use Rattle.call.specs.Call.{memoryOf};
-ghost use Rattle.listen.specs.Waiting.{Waiting};
+ghost use Rattle.wait.specs.Waiting.{Waiting};
 ghost use Rattle.flow.specs.Fill.{deskOf, placeOf, Stands, Inside, Room, Ending, Clear, Gathered, lineBy, Steps, Fills};
 use crate::cut::cut_at;
-use listen::wait::put_kept;
 use reports::calls::PROGRAM;
 use reports::calls::REFUSAL_ROOM;
 use reports::calls::REPLY_ROOM;
 use reports::calls::hear_line;
 use reports::calls::take_set;
 use tablets::counts::sets_left;
+use wait::put_kept;
 
 // Where a run stands beside its bench: the bytes that wait for the end of their line, the lines that have come, and the sets that are
 // still to be taken.

@@ -11,7 +11,7 @@ use Rattle.paper.specs.Refusal as R
 use Rattle.paper.specs.Freeing.{broken, freeing, freeingAnswers}
 use Rattle.paper.proofs.Law.{if-true, if-false, and-left, and-right}
 use Rattle.paper.proofs.Test.{either}
-use Rattle.listen.specs.Waiting.{Waits, Comes}
+use Rattle.wait.specs.Waiting.{Waits, Comes}
 use Rattle.call.specs.Call.{Memory}
 use Rattle.tablets.specs.Calls.{Reached}
 use Rattle.tablets.specs.Runs.{hears, Made, Chain, after, Report}

@@ -7,7 +7,7 @@ ghost use lib.ListN.{getD, take};
 ghost use Rattle.paper.specs.Byte.{every};
 ghost use Rattle.paper.specs.Command.{isShown};
 ghost use Rattle.paper.specs.Line.{kept, control};
-ghost use Rattle.listen.specs.Waiting.{Waits};
+ghost use Rattle.wait.specs.Waiting.{Waits};
 ghost use Rattle.call.specs.Call.{memoryOf};
 ghost use Rattle.lend.specs.Laid.{Sits, SeatHears, SeatTakes};
 use call::hear_answer;

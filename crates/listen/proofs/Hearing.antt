@@ -1,14 +1,14 @@
 -- A line with what is dropped of it: its first 257 bytes that are kept are heard as the line.
 use Prim.Native.Nat.{ℕ, _≤_}
-use mathlib.Core.Path.{_≡_, refl, sym, _∙_, ap, subst}
+use mathlib.Core.Path.{_≡_, sym, _∙_, ap, subst}
 use mathlib.Core.Bool.{true, false}
-use mathlib.Core.List.{List, []}
+use mathlib.Core.List.{List}
 use native.Mathlib.Omega.{arith}
 use lib.ListN.{length, take, length-take}
 use lib.Seq.{take-all}
 use lib.Dec.{eqb}
-use borrow.Author.Tests.{le-ltb, eqb-true, eqb-false, ne-eqb}
-use Rattle.paper.specs.Byte.{every, if_then_else_}
+use borrow.Author.Tests.{le-ltb, eqb-true, eqb-false}
+use Rattle.paper.specs.Byte.{every}
 use Rattle.paper.specs.Command.{isShown}
 use Rattle.paper.specs.Line.{kept, long, control}
 use Rattle.paper.specs.Form.{Form}
@@ -24,26 +24,8 @@ use Rattle.command.specs.declared.Refusal.{Refusal}
 use Rattle.command.specs.declared.Refusal.the-variants as W
 use Rattle.session.specs.Memory.{Session, Shelf}
 use Rattle.session.specs.Outcome.{Hears, Refuses, afterLine}
-use Rattle.listen.specs.Waiting.{Waits, Waiting, Comes, faultOf}
+use Rattle.wait.specs.Waiting.{Waits, faultOf}
 use Rattle.listen.proofs.Heeding.{hears-long, hears-control}
-
--- of no line nothing waits
-waits-none : (memory : List ℕ) → length memory ≡ 257 → Waits [] memory 0
-waits-none memory l = record { front = refl; counts = refl; room = l }
-
-pub waiting-none : (memory : List ℕ) → length memory ≡ 257 → Waiting memory 0
-waiting-none memory l = record { line = []; waits = waits-none memory l }
-
--- then what is kept of a line
-pub waits-kept : (old s new : List ℕ) (n : ℕ) → length old ≡ 257 → Comes old 0 s new n → Waits (kept s) new n
-waits-kept old s new n l c = c .comes [] (waits-none old l)
-
--- that lies within its memory
-pub kept-inside : (old s new : List ℕ) (n : ℕ) → length old ≡ 257 → Comes old 0 s new n → n ≤ length new
-kept-inside old s new n l c = let w = waits-kept old s new n l c in omega (arith, w .counts, w .room, length-take 257 (kept s))
-
-pub kept-counts : (old s new : List ℕ) (n : ℕ) → length old ≡ 257 → Comes old 0 s new n → n ≡ length (take n new)
-kept-counts old s new n l c = let w = waits-kept old s new n l c in w .counts ∙ ap length (sym (w .front))
 
 -- a line leads to the same form as its first 257 bytes
 after-first : (n : ℕ) (fs : List Form) (st : P.Session) (s : List ℕ) → afterLine n fs st (take 257 s) ≡ afterLine n fs st s
@@ -79,15 +61,6 @@ module _ (session : Session) (shelf : Shelf) (s line : List ℕ) (n : ℕ) (w : 
       let few : length (kept s) ≤ 256 = omega (arith, eqb-false n 257 m, w .counts, length-take 257 (kept s)) in
       let all : take n line ≡ kept s = w .front ∙ take-all 257 (kept s) (omega arith) in
       hears-control session shelf (kept s) b answer next (below (kept s) few) (subst (λ x. control x ≡ true) all c) (rw (if-false {A = Refusal} _ W.TooLong W.ControlByte m) at r))
-
--- why it is refused, as the code tells it
-pub fault-long : (n : ℕ) → n ≡ 257 → W.TooLong ≡ faultOf n
-unfolding faultOf if_then_else_
-fault-long n e = rw e
-
-pub fault-control : (n : ℕ) → (n ≡ 257 → ⊥) → W.ControlByte ≡ faultOf n
-unfolding faultOf
-fault-control n e = sym (if-false _ _ _ (ne-eqb n 257 e))
 
 -- nothing is dropped of a line without control bytes
 pub hears-shown : (session : Session) (shelf : Shelf) (s old new : List ℕ) (answer : Answer) (next : Session) (more : Shelf) → every isShown s ≡ true

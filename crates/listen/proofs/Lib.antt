@@ -1,3 +1,2 @@
-pub mod Keeping
 pub mod Heeding
 pub mod Hearing

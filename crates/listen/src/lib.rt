@@ -1,3 +1,2 @@
 // A line to one session, in every state.
 pub mod obey;
-pub mod wait;

@@ -12,7 +12,7 @@ ghost use Rattle.call.specs.Call.{memoryOf};
 ghost use Rattle.reports.specs.Said.{Sole, HearsAt, TakesAt};
 use crate::refusals::put_refusal;
 use command::Answer;
-use tablets::lines::hear_from;
+use desk::hear_from;
 use tablets::sets::take;
 
 // The tablet that the program is: it has the bench to itself.

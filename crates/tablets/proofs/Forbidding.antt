@@ -17,7 +17,7 @@ use Rattle.paper.specs.Bench as P
 use Rattle.paper.specs.Class.{Class, desk, thirty, prints, holdsForm, openLines, filingOf, barred, hearUnless, Reply, tabletOf, reply, denied, hearOf, hearFrom, SaneClass}
 use Rattle.paper.proofs.Law.{by-test}
 use Rattle.paper.proofs.Dropped.{kept-stays, stays-kept, stays-take}
-use Rattle.listen.specs.Waiting.{Waits}
+use Rattle.wait.specs.Waiting.{Waits}
 use Rattle.listen.proofs.Hearing.{heard-waits}
 use Rattle.paper.proofs.Test.{either}
 use Rattle.paper.proofs.Apart.{seat-own, seat-other}

@@ -30,7 +30,7 @@ use Rattle.store.specs.Packed.{Store, packed}
 use Rattle.store.specs.Lent.{storeOf}
 use Rattle.store.specs.declared.Filed.{Filed}
 use Rattle.session.specs.Memory.{Session, drafting, drafts, holding, holds, packedSession, packedShelf, entriesOf, numberOf}
-use Rattle.listen.specs.Waiting.{Waits}
+use Rattle.wait.specs.Waiting.{Waits}
 use Rattle.line.proofs.Filing.{read-leads}
 use Rattle.seats.specs.Numbers.{codeOf, filedIn}
 use Rattle.seats.proofs.Parted.{numbers-length}

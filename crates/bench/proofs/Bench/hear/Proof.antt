@@ -53,9 +53,9 @@ use Rattle.bench.proofs.Lending.{large, mutably, shared, OnLoan, lends-
 use Rattle.bench.proofs.Apart.{Fields, Rest, takes-apart, puts-together}
 use Rattle.command.proofs.Answer as Q
 use Rattle.command.proofs.Answer.Laws as Q′
-use Rattle.tablets.proofs.lines.hear as callee
-use Rattle.tablets.proofs.lines.hear.Symbol as callee-def
-use Rattle.tablets.proofs.lines.hear.Met as callee-thm
+use Rattle.desk.proofs.hear as callee
+use Rattle.desk.proofs.hear.Symbol as callee-def
+use Rattle.desk.proofs.hear.Met as callee-thm
 use Rattle.bench.proofs.Bench.hear as this
 use Rattle.bench.proofs.Bench.hear.Key as key
 use Rattle.bench.proofs.Bench.hear.Statement as to-show

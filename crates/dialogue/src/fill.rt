@@ -6,9 +6,9 @@ ghost use Rattle.call.specs.Call.{memoryOf};
 ghost use Rattle.flow.specs.Fill.{Ending, Clear};
 ghost use Rattle.dialogue.specs.Waiting.{Waiting};
 ghost use Rattle.dialogue.specs.Fill.{deskOf, placeOf, Stands, Inside, Room, Gathered, lineBy, Steps, Fills};
+use crate::keep::put_kept;
 use crate::records::RECORD_ROOM;
 use crate::records::talk_line;
-use crate::wait::put_kept;
 use flow::cut::cut_at;
 
 // How far a run came: the bytes that wait for the end of their line, the place in the input, and where the bytes that wait for

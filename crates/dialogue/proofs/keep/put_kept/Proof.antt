@@ -3,8 +3,8 @@ use Prim.Native.Nat.{_-_}
 use lib.ListN.{length}
 use borrow.Author.Needs.{needs}
 use Rattle.dialogue.proofs.Keeping.{Keeping, keeping-begins, keeping-cr, keeping-eof, keeping-more, keeping-full, keeping-ends}
-use Rattle.dialogue.proofs.wait.put_kept.Statement.{statement}
-use Rattle.dialogue.proofs.wait.put_kept.Tie as tie
+use Rattle.dialogue.proofs.keep.put_kept.Statement.{statement}
+use Rattle.dialogue.proofs.keep.put_kept.Tie as tie
 
 pub put-kept-spec : {M : Type 1} → statement M
 put-kept-spec =

@@ -10,10 +10,10 @@ ghost use lib.ListN.{length};
 ghost use Rattle.streams.specs.Streams.{passing, tried, Tries, Reads, Writes};
 
 mod say;
-mod wait;
+mod sleep;
 
 pub use say::complain;
-pub use wait::pause;
+pub use sleep::pause;
 
 // A proved loop has to end, and nothing says that a signal or a full pipe does. So a loop counts calls that moved nothing
 // down from 2^47: at a pause of a millisecond each, that is over four thousand years.

@@ -46,13 +46,13 @@ use Rattle.libc.proofs.types.timespec.Laws as T′
 use Rattle.libc.proofs.nanosleep as callee
 use Rattle.libc.proofs.nanosleep.Symbol as callee-def
 use Rattle.libc.proofs.nanosleep.Met as callee-thm
-use Rattle.streams.proofs.wait.moment as moment
-use Rattle.streams.proofs.wait.moment.Symbol as moment-def
-use Rattle.streams.proofs.wait.moment.Met as moment-thm
-use Rattle.streams.proofs.wait.pause as this
-use Rattle.streams.proofs.wait.pause.Key as key
-use Rattle.streams.proofs.wait.pause.Statement as stated
-use Rattle.streams.proofs.wait.pause.Code as code
+use Rattle.streams.proofs.sleep.moment as moment
+use Rattle.streams.proofs.sleep.moment.Symbol as moment-def
+use Rattle.streams.proofs.sleep.moment.Met as moment-thm
+use Rattle.streams.proofs.sleep.pause as this
+use Rattle.streams.proofs.sleep.pause.Key as key
+use Rattle.streams.proofs.sleep.pause.Statement as stated
+use Rattle.streams.proofs.sleep.pause.Code as code
 
 abbrev R : RattleType
 R = T.the-row
@@ -161,6 +161,6 @@ pause-spec 𝓤 H 𝓜 𝓖 𝓡 =
     entered 𝓤 H (tripleOf 𝓤 H (𝓖 .A) this.signature (this.spec 𝓤 H (𝓖 .A) (𝓜 .mem) (𝓡 .run)))
     (tables 𝓤 H 𝓜 𝓡 code.env .C) (tables 𝓤 H 𝓜 𝓡 code.env .Λ) key.name code.function (code.unfolded 𝓤 H 𝓜 𝓡)
     (meets 𝓤 H (𝓖 .A) (givenOf 𝓤 H 𝓜 𝓖) (𝓜 .mem) (𝓡 .run) (tablesOf 𝓤 H 𝓜 (tables 𝓤 H 𝓜 𝓡 code.env)) (
-      cited 𝓤 H (Moment 𝓤 H (𝓖 .A) (𝓜 .mem) (𝓡 .run)) 𝓜 𝓡 code.env moment-def.name moment-def.routine code.calls-streams·wait·moment (moment-thm.met 𝓤 H 𝓜 𝓖 𝓡),
+      cited 𝓤 H (Moment 𝓤 H (𝓖 .A) (𝓜 .mem) (𝓡 .run)) 𝓜 𝓡 code.env moment-def.name moment-def.routine code.calls-streams·sleep·moment (moment-thm.met 𝓤 H 𝓜 𝓖 𝓡),
       cited 𝓤 H (Callee 𝓤 H (𝓖 .A) (𝓜 .mem) (𝓡 .run)) 𝓜 𝓡 code.env callee-def.name callee-def.routine code.calls-libc·nanosleep (callee-thm.met 𝓤 H 𝓜 𝓖 𝓡),
     ))

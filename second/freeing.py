@@ -80,9 +80,11 @@ def class_cases():
         for name, waiting in halves():
             freed = [(17, line, no(refusal) if refusal else ok(17)) for line, refusal in zip(*three_lines(state, waiting))]
             yield class_case(f'{state}, {name}', begin + reached + freed + end)
-    # half an input line is ended by 01H too, before the three lines: here it names no tablet
+    # half an input line is ended by 01H too, before the three lines: here it names no tablet, and then one that is asked for an answer, which is over by that
     freed = [(17, '\x01', no(2)), (17, 'FE', no(3)), (17, 'N', ok(17))]
     yield class_case('half an input line', [(None, '1\x01', no(18))] + freed + [(17, 'FI', ok(17, 0, NONE))])
+    asked = [(18, line, ok(18)) for line in FORM + ['FR"F"', '?']]
+    yield class_case('half an input line of another', asked + [(18, 'Ida\x01', no(2))] + freed + [(18, 'FI', ok(18, 0, NAMES))])
     # a take between the three lines is the tablet's own while it prints, and there is no more to be taken behind them
     yield class_case('a take between', [(17, line, ok(17)) for line in FORM + ['FR"F"', '?', 'Mia']] + [
         (17, 'P2', ok(17, 2)), (17, '\x01', no(2)), (None, 'take', ok(17, 1, label('Mia'))), (17, 'FE', no(3)), (17, 'N', ok(17)), (None, 'take', no(16))])

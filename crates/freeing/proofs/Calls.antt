@@ -93,7 +93,7 @@ chain-frees-among self k t l w a b d xs ys zs p q r ms e h =
 module _ (t : ℕ) (c c′ : Class) (agree : AgreeBut t c c′) (self self′ : Memory) (k : Reached self) (k′ : Reached self′) (freed : Freed c t (k .class)) (freed′ : Freed c′ t (k′ .class)) where
   -- ONE MEMORY
   pub freed-memory : self ≡ self′
-  freed-memory = k .is ∙ ap packedClass (freed-same t c c′ (k .class) (k′ .class) agree freed freed′) ∙ sym (k′ .is)
+  freed-memory = k .is ∙ ap packedClass (freed-same width t c c′ (k .class) (k′ .class) (k .calls) (k′ .calls) (k .led) (k′ .led) agree freed freed′) ∙ sym (k′ .is)
 
   -- FOR EVER: the same calls, with the same buffers, give the same answers, bytes, tablets and memory, one by one
   pub freed-for-ever : (ms ms′ : List Made) → map (λ m. m .what) ms ≡ map (λ m. m .what) ms′ → map (λ m. m .old) ms ≡ map (λ m. m .old) ms′ → Chain self ms → Chain self′ ms′ → ms ≡ ms′

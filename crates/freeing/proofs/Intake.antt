@@ -8,7 +8,8 @@ use borrow.Author.Tests.{not-true}
 use Rattle.paper.specs.Byte.{every, bytes, if_then_else_}
 use Rattle.paper.specs.Line.{lf, isDropped, kept}
 use Rattle.paper.specs.Refusal as R
-use Rattle.paper.specs.Freeing.{broken, freeing, freeingAnswers}
+use Rattle.paper.specs.Class.{Class}
+use Rattle.paper.specs.Freeing.{broken, freeing, freeingAnswers, AgreeBut}
 use Rattle.paper.proofs.Law.{if-true, if-false, and-left, and-right}
 use Rattle.paper.proofs.Test.{either}
 use Rattle.wait.specs.Waiting.{Waits, Comes}
@@ -18,8 +19,8 @@ use Rattle.tablets.specs.Runs.{hears, Made, Chain, after, Report}
 use Rattle.tablets.proofs.Leaving.{hears-waiting}
 use Rattle.flow.proofs.Gathering.{clean-more}
 use Rattle.freeing.specs.Calls.{freeingCalls, FreedByCalls}
-use Rattle.freeing.specs.Intake.{Intake, Arrival, more, ending, Arrive, behind, behindAll, bytesIn, cameIn, Answered, Unwritten, Unfinished, FreedIn}
-use Rattle.freeing.proofs.Calls.{chain-frees}
+use Rattle.freeing.specs.Intake.{Intake, Arrival, more, ending, Arrive, behind, behindAll, bytesIn, cameIn, calls, Answered, Unwritten, Unfinished, FreedIn}
+use Rattle.freeing.proofs.Calls.{chain-frees, freed-for-ever}
 
 -- what has come of lines: those that have ended, and the bytes behind them
 record Poured : Type 0 where
@@ -55,12 +56,6 @@ pour-end w x = refl
 pour-freeing : (w : List ℕ) → pour w freeing ≡ record { lines = broken w ∷ bytes "FE" ∷ bytes "N" ∷ []; wait = [] }
 unfolding pour ahead freeing broken bytes isDropped if_then_else_
 pour-freeing w = refl
-
--- the calls of `hear` among some arrivals, with the whole lines
-unfoldable calls : (t : ℕ) → (w : List ℕ) → List Arrival → List Made
-calls t w [] = []
-calls t w (more s new len ∷ later) = calls t (w ++ kept s) later
-calls t w (ending old new next answer ∷ later) = record { what = hears t w; old = old; new = new; next = next; whose = t; answer = answer } ∷ calls t [] later
 
 -- more of a line waits
 more-waits : (w : List ℕ) (i : Intake) (s new : List ℕ) (len : ℕ) → Unfinished w i → Comes (i .waiting) (i .len) s new len → Unfinished (w ++ kept s) (behind i (more s new len))
@@ -124,8 +119,7 @@ arrive-unwritten t w (ending old new next answer ∷ later) e =
     let rest : map (λ m. m .new) (calls t [] later) ≡ map (λ m. m .old) (calls t [] later) = cc in
     (here, arrive-unwritten t [] later rest)
 
--- FREED: the three lines, behind a line that waits and in any pieces, leave the tablet Idle, nothing waiting, and all else as it was. Benches where that has happened are alike for ever
--- (`freed-for-ever`)
+-- FREED: the three lines, behind a line that waits and in any pieces, leave the tablet Idle, nothing waiting, and all else as it was
 pub arrive-frees : (t : ℕ) → t < 30 → (w : List ℕ) (i : Intake) (k : Reached (i .memory)) (came : List Arrival) → Unfinished w i → cameIn came ≡ freeing → Arrive t i came
     → FreedIn (k .class) t w came (behindAll i came)
 arrive-frees t l w i k came u e h =
@@ -141,3 +135,13 @@ arrive-frees t l w i k came u e h =
       answered = arrive-answered t w (freeingAnswers (k .class .tablet t .session) w) came (f .reports);
       unwritten = arrive-unwritten t w came (f .unwritten);
     }
+
+-- FOR EVER: where benches agreed but for the tablet, what it sends later, in whatever pieces, is the same calls with the same answers, bytes and memory, if the same buffers are lent. Of other calls
+-- too this holds (`freed-for-ever`)
+pub arrive-for-ever : (t : ℕ) (c c′ : Class) → AgreeBut t c c′ → (w w′ : List ℕ) (came came′ : List Arrival) (i i′ : Intake) → FreedIn c t w came i → FreedIn c′ t w′ came′ i′
+    → (later later′ : List Arrival) → cameIn later ≡ cameIn later′ → map (λ m. m .old) (calls t [] later) ≡ map (λ m. m .old) (calls t [] later′)
+    → Arrive t i later → Arrive t i′ later′ → calls t [] later ≡ calls t [] later′
+arrive-for-ever t c c′ agree w w′ came came′ i i′ f f′ later later′ e old h h′ =
+    freed-for-ever t c c′ agree (i .memory) (i′ .memory) (f .reached) (f′ .reached) (f .freed) (f′ .freed) (calls t [] later) (calls t [] later′)
+    (arrive-lines t [] i later h ∙ ap (λ s. map (hears t) (pour [] s .lines)) e ∙ sym (arrive-lines t [] i′ later′ h′)) old
+    (arrive-chain t [] i later (f .nothing) h) (arrive-chain t [] i′ later′ (f′ .nothing) h′)

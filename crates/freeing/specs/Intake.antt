@@ -16,6 +16,7 @@ use Rattle.command.specs.declared.Answer.{Answer}
 use Rattle.wait.specs.Waiting.{Waits, Comes}
 use Rattle.call.specs.Call.{Memory}
 use Rattle.tablets.specs.Calls.{Reached, HearsLine}
+use Rattle.tablets.specs.Runs.{hears, Made}
 
 -- the memory of a class, and what waits of a tablet's line
 pub record Intake : Type 0 where
@@ -56,6 +57,12 @@ bytesIn (ending old new next answer) = lf ∷ []
 unfoldable pub cameIn : List Arrival → List ℕ
 cameIn [] = []
 cameIn (a ∷ later) = bytesIn a ++ cameIn later
+
+-- the calls of `hear` among them, with the whole lines, where some bytes of the first wait already
+unfoldable pub calls : (t : ℕ) → (w : List ℕ) → List Arrival → List Made
+calls t w [] = []
+calls t w (more s new len ∷ later) = calls t (w ++ kept s) later
+calls t w (ending old new next answer ∷ later) = record { what = hears t w; old = old; new = new; next = next; whose = t; answer = answer } ∷ calls t [] later
 
 -- the lines among them got these answers, one by one, with the lent buffers after them
 abbrev pub Answered : List R.Answer → List Arrival → Type 0

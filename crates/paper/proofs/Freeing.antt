@@ -5,8 +5,9 @@ use mathlib.Core.Path.{_≡_, refl, sym, _∙_, ap}
 use mathlib.Core.Bool.{true, false}
 use mathlib.Core.List.{List, [], _∷_}
 use mathlib.Core.Option.{Option, none, some}
-use lib.Dec.{eqb}
-use borrow.Author.Tests.{eq-eqb, eqb-true}
+use native.Mathlib.Omega.{arith}
+use lib.Dec.{ltb, eqb}
+use borrow.Author.Tests.{eq-eqb, eqb-true, ltb-true, ltb-false}
 use Rattle.paper.specs.Byte.{bytes, if_then_else_}
 use Rattle.paper.specs.Line.{isDropped, kept, long, control}
 use Rattle.paper.specs.Command.{Filing, finish}
@@ -14,16 +15,18 @@ use Rattle.paper.specs.Refusal.{Answer, accepted, refused}
 use Rattle.paper.specs.Read.{unread, read}
 use Rattle.paper.specs.Form.{Form, isSome}
 use Rattle.paper.specs.Bench.{Session, idle, collecting, spoiled, opened, answering, ready, printing, Outcome, outcome, done, refuse, afterRefusal, obeyed, inIdle, inCollecting, inSpoiled, inOpened, inAnswering, inReady, inPrinting, onFinish, filed, heard, hear}
-use Rattle.paper.specs.Class.{Tablet, Class, Reply, atRest, filingRead, filingOf, barred, reply, hearFrom, replyTo, repliesTo, classAfter, holdsForm, openLines, collects}
+use Rattle.paper.specs.Class.{Tablet, Class, thirty, beginClass, Reply, atRest, prints, filingRead, filingOf, barred, reply, denied, hearOf, hearFrom, turn, serve, takeNext, Request, sends, fetches, replyTo, repliesTo, classAfter, holdsForm, openLines, collects}
+use Rattle.paper.specs.Diary.{isFor}
 use Rattle.paper.specs.Freeing.{broken, threeLines, whyBroken, whyFinish, freeingAnswers, atIdle, Freed, AgreeBut}
 use Rattle.paper.proofs.Law.{by-test, if-true, if-false}
 use Rattle.paper.proofs.Text.{control-behind}
 use Rattle.paper.proofs.Test.{either}
 use Rattle.paper.proofs.Dropped.{kept-append}
 use Rattle.paper.proofs.Cases.{ran}
-use Rattle.paper.proofs.Apart.{seat-own, seat-other, reply-session, free-reply}
+use Rattle.paper.proofs.Apart.{seat-own, seat-other, reply-session, free-reply, leaves-others}
 use Rattle.paper.proofs.Others.{barred-none, barred-finish}
 use Rattle.paper.proofs.ClassSane.{tablet-nameless}
+use Rattle.paper.proofs.Turn.{Passing, turn-passing}
 
 -- 01H is kept
 kept-one : kept (1 ∷ []) ≡ 1 ∷ []
@@ -89,10 +92,10 @@ new-hears width room fs (printing ls given n c i) = refl
 
 -- what agrees with what agrees with another
 agree-then : (t : ℕ) (c d e : Class) → AgreeBut t c d → AgreeBut t d e → AgreeBut t c e
-agree-then t c d e p q = record { forms = p .forms ∙ q .forms; others = λ k n. p .others k n ∙ q .others k n; last = p .last ∙ q .last }
+agree-then t c d e p q = record { forms = p .forms ∙ q .forms; others = λ k l n. p .others k l n ∙ q .others k l n; last = p .last ∙ q .last }
 
 agree-back : (t : ℕ) (c d : Class) → AgreeBut t c d → AgreeBut t d c
-agree-back t c d p = record { forms = sym (p .forms); others = λ k n. sym (p .others k n); last = sym (p .last) }
+agree-back t c d p = record { forms = sym (p .forms); others = λ k l n. sym (p .others k l n); last = sym (p .last) }
 
 -- a line that leaves its tablet in some state, and all else as it was
 pub record Leaves (width : ℕ) (c : Class) (t : ℕ) (s : List ℕ) (room : ℕ) (answer : Answer) (next : Session) : Type 0 where
@@ -119,7 +122,7 @@ module _ (width : ℕ) (c : Class) (t : ℕ) (l : t < 30) where
         form = λ n. ap (λ (r : Reply). r .next .tablet t .form) is ∙ reply-nameless f (outcome answer (c .forms) next) n;
         rest = record {
           forms = ap (λ (r : Reply). r .next .forms) is;
-          others = λ k n. ap (λ (r : Reply). r .next .tablet k) is ∙ seat-other t _ (c .tablet) k n;
+          others = λ k l n. ap (λ (r : Reply). r .next .tablet k) is ∙ seat-other t _ (c .tablet) k n;
           last = ap (λ (r : Reply). r .next .last) is;
         };
       }
@@ -188,18 +191,41 @@ module _ (width : ℕ) (c : Class) (t : ℕ) (l : t < 30) (w : List ℕ) (a b d 
   unfolding repliesTo threeLines replyTo freeingAnswers
   frees-says = rw (first .answers, second .answers, third .answers)
 
--- a class is what its parts are
-class-one : (t : ℕ) (c d : Class) → c .tablet t ≡ d .tablet t → AgreeBut t c d → c ≡ d
-class-one t c d e a =
+-- a number over 29 is no tablet
+beyond-other : (k u : ℕ) → ltb k 30 ≡ false → u < 30 → eqb k u ≡ false
+beyond-other k u m l = either (eqb k u) (λ y. absurd (omega (arith, eqb-true k u y, ltb-false k 30 m, l))) (λ n. n)
+
+-- no call is for it
+beyond-whose : (width k : ℕ) (c : Class) (q : Request) → ltb k 30 ≡ false → isFor k (replyTo width c q .whose) ≡ false
+unfolding replyTo hearFrom hearOf takeNext serve reply denied isFor thirty if_then_else_
+beyond-whose width k c (sends u room s) m = either (ltb u 30) (λ y. rw y (beyond-other k u m (ltb-true u 30 y))) (λ n. rw n)
+beyond-whose width k c (fetches room) m = by-turn (turn c) (turn-passing c)
+  where
+    by-turn : (o : Option ℕ) → ((u : ℕ) → o ≡ some u → Passing (λ j. prints (c .tablet j .session)) u) → isFor k (serve room c o .whose) ≡ false
+    by-turn none p = refl
+    by-turn (some u) p = beyond-other k u m (p u refl .below)
+
+beyond-stays : (width k : ℕ) (c : Class) (qs : List Request) → ltb k 30 ≡ false → classAfter width c qs .tablet k ≡ c .tablet k
+unfolding classAfter
+beyond-stays width k c [] m = refl
+beyond-stays width k c (q ∷ qs) m = beyond-stays width k (replyTo width c q .next) qs m ∙ leaves-others width k c q (beyond-whose width k c q m)
+
+-- a class that calls led to is what its thirty tablets are, its store and the one last served
+class-one : (width t : ℕ) (c d : Class) (qs rs : List Request) → c ≡ classAfter width beginClass qs → d ≡ classAfter width beginClass rs → c .tablet t ≡ d .tablet t → AgreeBut t c d → c ≡ d
+class-one width t c d qs rs p q e a =
+    let beyond : (k : ℕ) → ltb k 30 ≡ false → c .tablet k ≡ d .tablet k = λ k m.
+    ap (λ (x : Class). x .tablet k) p ∙ beyond-stays width k beginClass qs m ∙ sym (beyond-stays width k beginClass rs m) ∙ ap (λ (x : Class). x .tablet k) (sym q) in
     let each : (k : ℕ) → c .tablet k ≡ d .tablet k = λ k.
-    either (eqb k t) (λ y. ap (c .tablet) (eqb-true k t y) ∙ e ∙ sym (ap (d .tablet) (eqb-true k t y))) (λ n. a .others k n) in
+    either (eqb k t) (λ y. ap (c .tablet) (eqb-true k t y) ∙ e ∙ sym (ap (d .tablet) (eqb-true k t y)))
+    (λ n. either (ltb k 30) (λ y. a .others k (ltb-true k 30 y) n) (λ m. beyond k m)) in
     λ j. record { forms = a .forms j; tablet = λ k. each k j; last = a .last j }
 
 -- a tablet that is Idle was freed where it is
 pub idle-freed : (c : Class) (t : ℕ) → c .tablet t ≡ atIdle → Freed c t c
-idle-freed c t e = record { tablet = e; rest = record { forms = refl; others = λ k n. refl; last = refl } }
+idle-freed c t e = record { tablet = e; rest = record { forms = refl; others = λ k l n. refl; last = refl } }
 
 -- ONE CLASS: classes that agree but for a tablet are one where it was freed in both
-pub freed-same : (t : ℕ) (c d next next′ : Class) → AgreeBut t c d → Freed c t next → Freed d t next′ → next ≡ next′
-freed-same t c d next next′ agree p q =
-    class-one t next next′ (p .tablet ∙ sym (q .tablet)) (agree-then t next c next′ (p .rest) (agree-then t c d next′ agree (agree-back t next′ d (q .rest))))
+pub freed-same : (width t : ℕ) (c d next next′ : Class) (qs rs : List Request) → next ≡ classAfter width beginClass qs → next′ ≡ classAfter width beginClass rs
+    → AgreeBut t c d → Freed c t next → Freed d t next′ → next ≡ next′
+freed-same width t c d next next′ qs rs led led′ agree p q =
+    class-one width t next next′ qs rs led led′ (p .tablet ∙ sym (q .tablet)) (agree-then t next c next′ (p .rest) (agree-then t c d next′ agree (agree-back t next′ d (q .rest))))

@@ -1,5 +1,5 @@
 -- 'Three lines that always free the bench' (L12): a line of the single byte 01H, behind whatever waits of an unfinished line; `FE`; and `N`.
-use Rattle.paper.specs.Byte.{ℕ, List, [], _∷_, _++_, false, eqb, _≡_, bytes, if_then_else_}
+use Rattle.paper.specs.Byte.{ℕ, List, [], _∷_, _++_, false, eqb, _<_, _≡_, bytes, if_then_else_}
 use Rattle.paper.specs.Line.{lf, kept, long}
 use Rattle.paper.specs.Refusal.{Refusal, tooLong, controlByte, notNow, isSpoiled, Answer, accepted, refused}
 use Rattle.paper.specs.Bench.{Session, idle}
@@ -41,7 +41,7 @@ atIdle = record { session = idle; form = [] }
 -- two classes agree but for a tablet: in the store, every other tablet and the one last served
 pub record AgreeBut (t : ℕ) (c d : Class) : Type 0 where
   pub forms : c .forms ≡ d .forms
-  pub others : (k : ℕ) → eqb k t ≡ false → c .tablet k ≡ d .tablet k
+  pub others : (k : ℕ) → k < 30 → eqb k t ≡ false → c .tablet k ≡ d .tablet k
   pub last : c .last ≡ d .last
 
 -- one class is another with a tablet freed, and all else as it was

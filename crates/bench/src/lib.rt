@@ -1,4 +1,6 @@
 // The bench: it hears the lines of thirty tablets and gives sets. Its arrays are its own and never move; each call lends them.
+#![tactic(auto)]
+
 ghost use Rattle.tablets.specs.Calls.{Reached, Begins, HearsLine, TakesSet, SetsLeft, AllLeft};
 ghost use Rattle.program.specs.Pass.{Starting};
 ghost use Rattle.bench.specs.Whole.{memory};

@@ -1,4 +1,6 @@
 // The calls of one session beside its store: a line, by whether an answer is asked for, a line that is refused, and a take.
+#![tactic(auto)]
+
 ghost use Rattle.std.specs.Prelude.{◌≡◌, true, List, get_or, take, ℕ};
 ghost use Rattle.paper.specs.Line.{kept, control};
 ghost use Rattle.wait.specs.Waiting.{Waits};

@@ -1,5 +1,7 @@
 // The label bench of a class as a program: standard input to standard output, a record for each input line. It reads and writes in
 // buffers of 64 KiB, and has written out all it has to say before it waits for more input.
+#![tactic(auto)]
+
 use class_program::run;
 use tablets::counts::LAST;
 

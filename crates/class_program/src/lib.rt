@@ -1,4 +1,6 @@
 // Reading and writing for a class: the loops around crate streams, which calls C.
+#![tactic(auto)]
+
 ghost use Rattle.std.specs.Prelude.{◌<◌, ◌≡◌, false, length};
 ghost use Rattle.streams.specs.Streams.{Reads};
 ghost use Rattle.call.specs.Call.{memory_of};

@@ -1,4 +1,6 @@
 // What a line says, and the answer to a call. Strings are places in the line that was read.
+#![tactic(auto)]
+
 pub mod range;
 pub mod refusals;
 

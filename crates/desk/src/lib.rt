@@ -1,4 +1,6 @@
 // Lines with the number of their tablet: what the other tablets forbid, whose session hears the line, and how many print behind it.
+#![tactic(auto)]
+
 ghost use Rattle.std.specs.Prelude.{ℕ, ◌*◌, ◌<◌, ◌≡◌, true, ◌&&◌, length, get_or, eqb};
 ghost use Rattle.paper.specs.Byte.{every};
 ghost use Rattle.paper.specs.Command.{is_shown};

@@ -1,4 +1,6 @@
 // The program of a class over lent memory, with no call of C: input lines to records.
+#![tactic(auto)]
+
 pub mod fill;
 pub mod keep;
 pub mod records;

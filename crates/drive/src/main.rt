@@ -1,6 +1,8 @@
 // Drives the library where the program cannot: buffers that are too short, takes in every state, lines while sets are printed, and records
 // that no line reads as. Its output is to be read beside 01: buffers are full of marks before a call, and a byte that does not print
 // stands there in hex.
+#![tactic(auto)]
+
 mod lent;
 mod records;
 mod show;

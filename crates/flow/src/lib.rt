@@ -1,3 +1,5 @@
 // Input to output, over lent memory.
+#![tactic(auto)]
+
 pub mod cut;
 pub mod fill;

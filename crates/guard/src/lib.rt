@@ -1,4 +1,6 @@
 // What the other tablets make of a line that an idle tablet sends.
+#![tactic(auto)]
+
 ghost use Rattle.std.specs.Prelude.{◌≡◌, true};
 ghost use Rattle.std.proofs.Math.Option.{some};
 ghost use Rattle.paper.specs.Byte.{code, every};

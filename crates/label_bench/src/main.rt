@@ -1,5 +1,7 @@
 // The label bench as a program: standard input to standard output, and refusals to standard error. It reads and writes in
 // buffers of 64 KiB, and has written out all it has to say before it waits for more input.
+#![tactic(auto)]
+
 ghost use Rattle.label_bench.specs.Serves.{Buffers};
 
 use bench::Bench;

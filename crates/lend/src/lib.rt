@@ -1,4 +1,6 @@
 // A tablet's call at its seat: its parts of the five slices of the sessions are lent to the call of one session.
+#![tactic(auto)]
+
 ghost use Rattle.std.specs.Prelude.{ℕ, ◌*◌, ◌≡◌, true, List, get_or, take};
 ghost use Rattle.paper.specs.Byte.{every};
 ghost use Rattle.paper.specs.Command.{is_shown};

@@ -189,5 +189,5 @@ begin_class_sane width = record {
 pub calls_sane : (width : ℕ) (c : Class) (qs : List Request) → SaneClass width c → SaneClass width (class_after width c qs)
 unfolding class_after reply_to
 calls_sane width c [] sane = sane
-calls_sane width c (sends t room s ∷ qs) sane = calls_sane width _ qs (line_sane width room c t s sane)
-calls_sane width c (fetches room ∷ qs) sane = calls_sane width _ qs (taking_sane width room c sane)
+calls_sane width c (sends t room s ∷ qs) sane = calls_sane width (hear_from width room c t s).next qs (line_sane width room c t s sane)
+calls_sane width c (fetches room ∷ qs) sane = calls_sane width (take_next room c).next qs (taking_sane width room c sane)

@@ -37,8 +37,8 @@ module _ (width t : ℕ) (P : Tablet → Type 0) (taken-stays : (room : ℕ) (c 
   calls_stay c [] e p = p
   calls_stay c (sends u room s ∷ qs) e p =
       let other = not_own (eqb t u) (and_left _ _ e) in
-      calls_stay _ qs (and_right (not (eqb t u)) _ e) (rw (leaves_others width t c (sends u room s) (line_elsewhere width t u room c s other)) p)
-  calls_stay c (fetches room ∷ qs) e p = calls_stay _ qs e (take_stays room c p)
+      calls_stay (reply_to width c (sends u room s)).next qs (and_right (not (eqb t u)) _ e) (rw (leaves_others width t c (sends u room s) (line_elsewhere width t u room c s other)) p)
+  calls_stay c (fetches room ∷ qs) e p = calls_stay (reply_to width c (fetches room)).next qs e (take_stays room c p)
 
 -- a session that a function of the states leaves is left by it behind a take too, if Idle and Printing are
 take_leaves : (f : Session → Session) → idle ≡ f idle → ((ls : List FormLine) (given : List (List ℕ)) (n c i : ℕ) → printing ls given n c i ≡ f (printing ls given n c i))

@@ -147,7 +147,7 @@ module _ (width : ℕ) (ls : List FormLine) (answers : List (List ℕ)) (n c i :
   -- every line of it is within the label's limits
   pub set_range : all_range width (set_lines (value_in (asked ls) answers i) ls c) ≡ true
   unfolding set_lines all_range in_range ranges all_of all
-  set_range = rw (all_range_append, drawn_in, le-leb 1 c out.some_copies, le-leb c 65535 out.copied)
+  set_range = rw (all_range_append width, drawn_in, le-leb 1 c out.some_copies, le-leb c 65535 out.copied)
 
   -- it has at most 10,291 bytes
   pub set_room : width ≤ 10000 → length (set_of ls answers c i) ≤ 10291

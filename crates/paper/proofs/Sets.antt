@@ -94,7 +94,7 @@ answers_alike width st st' (s ∷ ss) e =
     let (there, next') = heard_alike width st' s in
     let same' : (heard width 0 [] st s).answer ≡ (heard width 0 [] st' s).answer = here ∙ ap (λ x. (heard width 0 [] x s).answer) e ∙ sym there in
     let on : rewound (heard width 0 [] st s).next.session ≡ rewound (heard width 0 [] st' s).next.session = next ∙ ap (λ x. rewound (heard width 0 [] x s).next.session) e ∙ sym next' in
-    rw same' (ap (λ more. (heard width 0 [] st' s).answer ∷ more) (answers_alike width _ _ ss on))
+    rw same' (ap (λ more. (heard width 0 [] st' s).answer ∷ more) (answers_alike width (heard width 0 [] st s).next.session (heard width 0 [] st' s).next.session ss on))
 
 -- a take leaves the session, but for the number that is out; or it was the last
 take_alike : (room : ℕ) (st : Session) → holds_form (taken room [] st).next.session ≡ true → rewound (taken room [] st).next.session ≡ rewound st
@@ -119,7 +119,7 @@ led_line width room st s h = ap (λ (o : Outcome). o.next.session) (heard_roomle
 pub answers_own : (width : ℕ) (st : Session) (es : List Entry) → Own width st es → answers_in es ≡ answers_alone width st (lines_in es)
 unfolding answers_in lines_in answers_alone bare led called hear take_set
 answers_own width st [] o = refl
-answers_own width st (e ∷ es) o = by_call e.call e.answer o.1 o.2 (answers_own width _ es o.2)
+answers_own width st (e ∷ es) o = by_call e.call e.answer o.1 o.2 (answers_own width (led width st e.call) es o.2)
   where
     by_call : (x : Call) (a : Answer) → a ≡ (called width (bare st) x).answer → Own width (led width st x) es → answers_in es ≡ answers_alone width (led width st x) (lines_in es) → answers_in (record { call = x; answer = a } ∷ es) ≡ answers_alone width st (lines_in (record { call = x; answer = a } ∷ es))
     by_call (line room s) a p more later =
@@ -202,7 +202,7 @@ led_bare width st (taking room) sane = bare_sane width _ _ (take_sane width room
 pub sets_own : (width : ℕ) (st : Session) (es : List Entry) → Sane width (bare st) → Own width st es → Begins (sets_in es) (ordered width st (lines_in es))
 unfolding sets_in lines_in set_of_call bare led called hear take_set
 sets_own width st [] sane o = record { later = ordered width st []; whole = refl }
-sets_own width st (e ∷ es) sane o = by_call e.call e.answer o.1 o.2 (sets_own width _ es (led_bare width st e.call sane) o.2)
+sets_own width st (e ∷ es) sane o = by_call e.call e.answer o.1 o.2 (sets_own width (led width st e.call) es (led_bare width st e.call sane) o.2)
   where
     by_call : (x : Call) (a : Answer) → a ≡ (called width (bare st) x).answer → Own width (led width st x) es → Begins (sets_in es) (ordered width (led width st x) (lines_in es)) → Begins (sets_in (record { call = x; answer = a } ∷ es)) (ordered width st (lines_in (record { call = x; answer = a } ∷ es)))
     by_call (line room s) a p more b =

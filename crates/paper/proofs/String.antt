@@ -59,4 +59,4 @@ escape_clear (b ∷ s) e =
 -- every byte of a string between quotes is 20H or more if its content's are, so that none is a control byte
 pub quoted_clear : (s : List ℕ) → every clear s ≡ true → every clear (quoted s) ≡ true
 unfolding quoted every
-quoted_clear s e = rw (every_append, escape_clear s e)
+quoted_clear s e = rw (every_append clear, escape_clear s e)

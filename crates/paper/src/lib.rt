@@ -1,1 +1,3 @@
 // The paper has no code: its definitions and theorems stand in specs/.
+#![tactic(auto)]
+

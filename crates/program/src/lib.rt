@@ -1,4 +1,6 @@
 // Reading and writing: the loops around crate streams, which calls C.
+#![tactic(auto)]
+
 ghost use Rattle.std.specs.Prelude.{◌+◌, ◌*◌, ◌^◌, ◌<◌, ◌≤◌, ◌≡◌, false, length};
 ghost use Rattle.call.specs.Call.{memory_of};
 ghost use Rattle.tablets.specs.Calls.{Begins, Reached};

@@ -1,5 +1,7 @@
 // Names and texts of up to 8 forms in 4,096 bytes, in memory that is lent. What stands there is fixed by the forms: behind them all
 // is 0.
+#![tactic(auto)]
+
 ghost use Rattle.std.specs.Prelude.{◌+◌, ◌-◌, ◌*◌, ◌<◌, ◌≤◌, ◌≡◌, ◌&&◌, [], ◌∷◌, ◌++◌, length, leb, ltb};
 ghost use Rattle.paper.specs.Byte.{same};
 ghost use Rattle.text.specs.Write.{Writes};

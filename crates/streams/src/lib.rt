@@ -4,6 +4,8 @@
 // No contract of the C library says what is read or written. What is promised here is what is left: counts lie within the
 // buffer, an interrupted call or one that would block is never taken for an error, nor for the end of the input, and a write
 // goes on where the one before it stopped.
+#![tactic(auto)]
+
 ghost use Rattle.std.specs.Prelude.{◌≤◌, ◌+◌, ◌≡◌, length};
 ghost use Rattle.streams.specs.Streams.{passing, tried, Tries, Reads, Writes};
 

@@ -1,4 +1,6 @@
 // Bytes that wait for the end of their line. CR and 1AH are dropped, and of a line only as much is kept as its refusal needs.
+#![tactic(auto)]
+
 ghost use Rattle.std.specs.Prelude.{◌≡◌};
 ghost use Rattle.wait.specs.Waiting.{Waiting, Comes, fault_of};
 

@@ -1,0 +1,24 @@
+-- `put_escaped` writes the escaping of a text: the loop has written that of its first bytes, and that of those from `i` on is still to come.
+use Prim.Native.Nat.{◌-◌, ◌≤◌}
+use native.Mathlib.Omega.{arith}
+use lib.ListN.{length, drop}
+use borrow.Author.Rules.{rules}
+use Rattle.paper.specs.Line.{escape}
+use Rattle.text.proofs.Written.{Writing, writing_begins, writing_room, writing_turns, writing_ends, writes_length}
+use Rattle.text.proofs.Content.{escape_next, escape_past}
+use Rattle.text.proofs.write.put_escaped.Goals as goal
+
+pub loop-i-init : goal.loop-i-init
+loop-i-init c = search (rules, writing_begins)
+
+pub put_escaped_byte-next-requires : goal.put_escaped_byte-next-requires
+put_escaped_byte-next-requires c = search (rules, writing_room, escape_next)
+
+pub loop-i-preserved : goal.loop-i-preserved
+loop-i-preserved c = search (rules, writing_turns, escape_next)
+
+pub shape_of-buf : goal.shape_of-buf
+shape_of-buf c = search (rules, writes_length)
+
+pub returns : goal.returns
+returns c = search (rules, writing_ends, escape_past)

@@ -1,0 +1,7 @@
+-- `put_two` writes `two`: two writes, one behind the other.
+use borrow.Author.Rules.{rules}
+use Rattle.text.proofs.Written.{two_digits_written}
+use Rattle.text.proofs.write.put_two.Goals as goal
+
+pub returns : goal.returns
+returns c = search two_digits_written

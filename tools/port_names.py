@@ -103,7 +103,7 @@ def turned(text, turn, fields, own, meet):
 
 
 def spans(comment, turn):
-    return re.sub('`([^`\n]+)`', lambda m: '`' + WORD.sub(lambda w: turn.get(w[0], w[0]), m[1]) + '`', comment)
+    return re.sub('`([^`\n]+)`', lambda m: '`' + WORD.sub(lambda w: w[0] if '_' in w[0] else turn.get(w[0], w[0]), m[1]) + '`', comment)
 
 
 def split(text, mark):

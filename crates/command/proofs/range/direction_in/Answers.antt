@@ -2,13 +2,12 @@
 use Rattle.paper.specs.Byte.{bytes, any, among}
 use Rattle.paper.specs.Command.{in_range, ranges, draw_ranges, all_of, all}
 use Rattle.command.proofs.Judge.{judging}
-use Rattle.command.proofs.range.direction_in.Statement.{statement}
-use Rattle.command.proofs.range.direction_in.Tie as tie
+use Rattle.command.proofs.range.direction_in.Goals as goal
 
-pub direction-in-spec : {M : Type 1} → statement M
+pub returns-then-d-eq84 : goal.returns-then-d-eq84
 unfolding bytes any among in_range ranges draw_ranges all_of all
-direction-in-spec =
-    tie.close
-    (tie.spec
-    (λ c. search judging)
-    (λ c. search judging))
+returns-then-d-eq84 c = search judging
+
+pub returns : goal.returns
+unfolding bytes any among in_range ranges draw_ranges all_of all
+returns c = search judging

@@ -29,7 +29,7 @@ fn write_out(out: &[u8]) -> bool
 
 // Where a piece of input led: how many bytes of a line wait, up to which place the input was used, and whether the run goes on. It does
 // not where standard output or standard input failed, nor where the input has ended.
-#[derive(Drop)]
+#[derive(Clone, Copy)]
 pub struct Passed {
     pub len: usize,
     pub next: usize,

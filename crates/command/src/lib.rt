@@ -7,7 +7,7 @@ pub mod refusals;
 use text::read::Span;
 
 // The refusals of the bench, in the order of their numbers.
-#[derive(Drop)]
+#[derive(Clone, Copy)]
 pub enum Refusal {
     TooLong,
     ControlByte,
@@ -31,7 +31,7 @@ pub enum Refusal {
 }
 
 // The five kinds of content of a text.
-#[derive(Drop)]
+#[derive(Clone, Copy)]
 pub enum Content {
     Text { string: Span },
     Counter { n: usize },
@@ -41,7 +41,7 @@ pub enum Content {
 }
 
 // The seven parameters of a text before its content, each under its letter in the profile's table.
-#[derive(Drop)]
+#[derive(Clone, Copy)]
 pub struct Setting {
     pub x: usize,
     pub y: usize,
@@ -53,14 +53,14 @@ pub struct Setting {
 }
 
 // A text command.
-#[derive(Drop)]
+#[derive(Clone, Copy)]
 pub struct Put {
     pub setting: Setting,
     pub content: Content,
 }
 
 // The place and size of a bar.
-#[derive(Drop)]
+#[derive(Clone, Copy)]
 pub struct Bar {
     pub x: usize,
     pub y: usize,
@@ -69,14 +69,14 @@ pub struct Bar {
 }
 
 // A counter's step. A step down is at least 1.
-#[derive(Drop)]
+#[derive(Clone, Copy)]
 pub enum Step {
     Up { n: usize },
     Down { n: usize },
 }
 
 // A command record, or the refusal of a line.
-#[derive(Drop)]
+#[derive(Clone, Copy)]
 pub enum Command {
     Empty,
     New,
@@ -139,7 +139,7 @@ pub enum Command {
 }
 
 // The answer to a call that writes into a lent buffer.
-#[derive(Drop)]
+#[derive(Clone, Copy)]
 pub enum Answer {
     Accepted { len: usize },
     Refused { why: Refusal },

@@ -11,7 +11,7 @@ use flow::cut::cut_at;
 
 // How far a run came: the bytes that wait for the end of their line, the place in the input, and where the bytes that wait for
 // standard output end.
-#[derive(Drop)]
+#[derive(Clone, Copy)]
 pub struct Reach {
     pub len: usize,
     pub next: usize,
@@ -19,7 +19,7 @@ pub struct Reach {
 }
 
 // The same, and whether the input is used up.
-#[derive(Drop)]
+#[derive(Clone, Copy)]
 pub struct Filled {
     pub reach: Reach,
     pub used: bool,

@@ -15,7 +15,7 @@ use tablets::sets::take;
 const PLAYER: usize = 0;
 
 // What a line of the script asks for.
-#[derive(Drop)]
+#[derive(Clone, Copy)]
 pub enum Call {
     Hear,
     Inform,

@@ -83,7 +83,7 @@ pub fn keep(
 }
 
 // What `FE` of a draft gives: the answer, and the store's numbers.
-#[derive(Drop)]
+#[derive(Clone, Copy)]
 pub struct Shelved {
     pub answer: Answer,
     pub filed: Filed,

@@ -6,7 +6,7 @@ use form::walk::line_end;
 use line::clear::clear_end;
 
 // Where the line from a place on ends, and whether all of it lies there, with no byte below 20H.
-#[derive(Drop)]
+#[derive(Clone, Copy)]
 pub struct Cut {
     pub end: usize,
     pub shown: bool,

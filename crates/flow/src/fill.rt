@@ -11,7 +11,7 @@ use wait::put_kept;
 
 // Where a run stands beside its bench: the bytes that wait for the end of their line, the lines that have come, and the sets that are
 // still to be taken.
-#[derive(Drop)]
+#[derive(Clone, Copy)]
 pub struct Run {
     pub len: usize,
     pub lines: usize,
@@ -19,7 +19,7 @@ pub struct Run {
 }
 
 // How far a run came: the place in the input, and where the bytes that wait for each stream end.
-#[derive(Drop)]
+#[derive(Clone, Copy)]
 pub struct Reach {
     pub run: Run,
     pub next: usize,
@@ -28,7 +28,7 @@ pub struct Reach {
 }
 
 // The same, and whether the input is used up.
-#[derive(Drop)]
+#[derive(Clone, Copy)]
 pub struct Filled {
     pub reach: Reach,
     pub used: bool,

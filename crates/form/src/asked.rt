@@ -11,14 +11,14 @@ use line::parts::{StepRead, digit_part, letter_part, number_part, step_part, two
 use text::read::{Number, byte_at};
 
 // A value to be asked for.
-#[derive(Drop)]
+#[derive(Clone, Copy)]
 pub enum Define {
     Counter { n: usize, len: usize, step: Step },
     Variable { n: usize, len: usize },
 }
 
 // A line of a form: a definition, or one that only draws.
-#[derive(Drop)]
+#[derive(Clone, Copy)]
 pub enum Line {
     Definition { define: Define },
     Other,

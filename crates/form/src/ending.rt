@@ -19,7 +19,7 @@ fn digit_of(b: u8) -> usize
 }
 
 // How a line that draws ends: the bytes that its value takes, the value's number, and whether it stands alone.
-#[derive(Drop)]
+#[derive(Clone, Copy)]
 pub enum Ending {
     Whole,
     Value {

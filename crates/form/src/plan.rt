@@ -25,7 +25,7 @@ pub const DOWN: usize = 1;
 pub const VARIABLE: usize = 2;
 
 // A form's text, and the place in it.
-#[derive(Drop)]
+#[derive(Clone, Copy)]
 pub struct Walk<'a> {
     pub text: &'a [u8],
     pub at: usize,
@@ -132,7 +132,7 @@ fn note_gap(plan: &mut [usize], define: Define, start: usize, at: usize)
 }
 
 // Where the open piece begins behind a line, and the place behind the line.
-#[derive(Drop)]
+#[derive(Clone, Copy)]
 pub struct Moved {
     pub start: usize,
     pub next: usize,

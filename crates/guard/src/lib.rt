@@ -32,7 +32,7 @@ const FIRST: usize = 0;
 const LAST: usize = 7;
 
 // Nothing; refusal 17; refusal 19; or a stored form leaves, and the others follow it.
-#[derive(Drop)]
+#[derive(Clone, Copy)]
 pub enum Guard {
     Free,
     Collected,

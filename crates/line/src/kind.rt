@@ -3,7 +3,7 @@ ghost use Rattle.std.specs.Prelude.{◌≡◌};
 ghost use Rattle.line.specs.Kind.{kind_of};
 
 // The rows of the profile's table, and letters that have none.
-#[derive(Drop)]
+#[derive(Clone, Copy)]
 pub enum Kind {
     New,
     Finish,

@@ -47,7 +47,7 @@ pub fn two_digits_part(s: &[u8], at: usize) -> Number
 }
 
 // A setting that was read and the place behind it, or that none stands there.
-#[derive(Drop)]
+#[derive(Clone, Copy)]
 pub enum SettingRead {
     Value { setting: Setting, next: usize },
     Bad,
@@ -98,7 +98,7 @@ fn look_at(s: &[u8], at: usize, x: usize, y: usize, r: usize) -> SettingRead
 }
 
 // A step that was read and the place behind it, or that none stands there.
-#[derive(Drop)]
+#[derive(Clone, Copy)]
 pub enum StepRead {
     Value { step: Step, next: usize },
     Bad,
@@ -137,7 +137,7 @@ pub fn step_part(s: &[u8], at: usize) -> StepRead
 }
 
 // A value that was read and the place behind it, or that none stands there.
-#[derive(Drop)]
+#[derive(Clone, Copy)]
 pub enum ValueRead {
     Counter { n: usize, next: usize },
     Variable { n: usize, next: usize },
@@ -165,7 +165,7 @@ pub fn value_at(s: &[u8], at: usize) -> ValueRead
 }
 
 // A content that was read and the place behind it, or that none stands there.
-#[derive(Drop)]
+#[derive(Clone, Copy)]
 pub enum ContentRead {
     Value { content: Content, next: usize },
     Bad,

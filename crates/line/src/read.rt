@@ -124,7 +124,7 @@ fn text_line(s: &[u8]) -> Command
 }
 
 // What an `L` line does to the dots under it.
-#[derive(Drop)]
+#[derive(Clone, Copy)]
 enum Pen {
     Black,
     Flip,
@@ -307,7 +307,7 @@ fn variable_line(s: &[u8]) -> Command
 }
 
 // What a line does with its name.
-#[derive(Drop)]
+#[derive(Clone, Copy)]
 pub enum Errand {
     Start,
     Recall,

@@ -31,7 +31,7 @@ fn write_both(out: &[u8], err: &[u8]) -> bool
 
 // Where a piece of input led, up to which place, and whether the run goes on: not where standard output or standard input failed, nor where
 // the input has ended.
-#[derive(Drop)]
+#[derive(Clone, Copy)]
 pub struct Passed {
     pub run: Run,
     pub next: usize,

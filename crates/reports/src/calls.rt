@@ -23,7 +23,7 @@ pub const REPLY_ROOM: usize = 10291;
 pub const REFUSAL_ROOM: usize = 64;
 
 // Where the bytes that wait for each stream end.
-#[derive(Drop)]
+#[derive(Clone, Copy)]
 pub struct Called {
     pub out: usize,
     pub err: usize,

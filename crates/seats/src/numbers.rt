@@ -63,7 +63,7 @@ pub fn filed_of(numbers: &[usize]) -> Filed
 }
 
 // The four numbers of a state.
-#[derive(Drop)]
+#[derive(Clone, Copy)]
 pub struct Code {
     pub tag: usize,
     pub a: usize,

@@ -6,7 +6,7 @@ use command::Answer;
 use store::Filed;
 
 // What a line gives that may change the stored forms.
-#[derive(Drop)]
+#[derive(Clone, Copy)]
 pub struct Change {
     pub answer: Answer,
     pub held: Held,

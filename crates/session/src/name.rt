@@ -7,7 +7,7 @@ use text::read::Span;
 use text::write::literal_at;
 
 // A name in sixteen bytes, 0 behind it.
-#[derive(Drop)]
+#[derive(Clone, Copy)]
 pub struct Name {
     pub bytes: [u8; 16],
     pub len: usize,

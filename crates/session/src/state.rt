@@ -12,7 +12,7 @@ pub const VALUES: usize = 104;
 
 // The states, with the numbers that each needs: the lines kept so far, the answers given, the sets and copies asked for and the sets
 // that are out.
-#[derive(Drop)]
+#[derive(Clone, Copy)]
 pub enum Mode {
     Idle,
     Collecting {
@@ -33,7 +33,7 @@ pub enum Mode {
 
 // The numbers of a session: its state; the form that it holds open, by its number and its text's place and size; the bytes of the
 // draft's name and of its text, and those of the answers.
-#[derive(Drop)]
+#[derive(Clone, Copy)]
 pub struct Held {
     pub mode: Mode,
     pub form: usize,
@@ -45,7 +45,7 @@ pub struct Held {
 }
 
 // What a line gives that leaves the stored forms as they are.
-#[derive(Drop)]
+#[derive(Clone, Copy)]
 pub struct Turn {
     pub answer: Answer,
     pub held: Held,

@@ -10,7 +10,7 @@ ghost use Rattle.set.specs.Judge.{amount_in, Judges};
 use form::plan::{DEFINES, VARIABLE, put_four};
 
 // The number that an answer writes, or that it is none.
-#[derive(Drop)]
+#[derive(Clone, Copy)]
 pub enum Amount {
     Is { n: usize },
     Not,
@@ -37,7 +37,7 @@ fn amount_of(a: &[u8]) -> Amount
 }
 
 // What is kept of an answer that fits.
-#[derive(Drop)]
+#[derive(Clone, Copy)]
 pub enum Value {
     Kept { first: usize, second: usize },
     Unfit,

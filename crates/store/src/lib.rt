@@ -20,14 +20,14 @@ const FORMS: usize = 8;
 const BYTES: usize = 4096;
 
 // The numbers of a store: the bytes of text that are used, and the forms.
-#[derive(Drop)]
+#[derive(Clone, Copy)]
 pub struct Filed {
     pub used: usize,
     pub count: usize,
 }
 
 // Where a form stands: its number, and its text's place and length.
-#[derive(Drop)]
+#[derive(Clone, Copy)]
 pub enum Found {
     At {
         index: usize,

@@ -20,7 +20,7 @@ pub use sleep::pause;
 const CALLS: u64 = 0x8000_0000_0000;
 
 // What a read came to. `Bytes`: n of them stand at the start of the buffer, at least one.
-#[derive(Drop)]
+#[derive(Clone, Copy)]
 pub enum Read {
     Bytes { n: usize },
     End,
@@ -28,14 +28,14 @@ pub enum Read {
 }
 
 // What a write of a whole buffer came to.
-#[derive(Drop)]
+#[derive(Clone, Copy)]
 pub enum Written {
     Whole,
     Failed { error: i32 },
 }
 
 // What one call came to: bytes moved, none moved and no error, one to make again, or an error.
-#[derive(Drop)]
+#[derive(Clone, Copy)]
 enum Tried {
     Moved { n: usize },
     Nothing,

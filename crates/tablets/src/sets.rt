@@ -12,7 +12,7 @@ use seats::numbers::{PRINTING, TABLETS, WIDTH};
 use seats::turns::turn_after;
 
 // The tablet whose set was asked for, 30 where nobody prints, and the answer.
-#[derive(Drop)]
+#[derive(Clone, Copy)]
 pub struct Served {
     pub tablet: usize,
     pub answer: Answer,

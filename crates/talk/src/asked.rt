@@ -13,7 +13,7 @@ use text::read::{Number, byte_at, number_at};
 pub const TAKE_ROOM: usize = 10291;
 
 // A line of a tablet, from a place on; a take with so much room; or neither.
-#[derive(Drop)]
+#[derive(Clone, Copy)]
 pub enum Asked {
     Line { tablet: usize, at: usize },
     Take { room: usize },

@@ -16,7 +16,7 @@ pub fn byte_at(s: &[u8], at: usize) -> u8
 }
 
 // A value that was read and the place behind it, or that none stands there.
-#[derive(Drop)]
+#[derive(Clone, Copy)]
 pub enum Number {
     Value { n: usize, next: usize },
     Bad,
@@ -132,7 +132,7 @@ pub fn comma_after(s: &[u8], part: Number) -> Number
 }
 
 // Where a string closes: its closing quote and the bytes it holds, or that it stays open.
-#[derive(Drop)]
+#[derive(Clone, Copy)]
 pub enum Closing {
     At { end: usize, len: usize },
     Open,
@@ -186,7 +186,7 @@ fn escaped_at(s: &[u8], at: usize, len: usize) -> Closing
 }
 
 // Where a string's content lies, from its first byte up to its closing quote, and its length after unescaping.
-#[derive(Drop)]
+#[derive(Clone, Copy)]
 pub struct Span {
     pub start: usize,
     pub end: usize,
@@ -194,7 +194,7 @@ pub struct Span {
 }
 
 // A string that stands at a place, by its span, or that none stands there.
-#[derive(Drop)]
+#[derive(Clone, Copy)]
 pub enum Quoted {
     Held { span: Span },
     Missing,

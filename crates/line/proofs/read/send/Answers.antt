@@ -1,0 +1,28 @@
+-- `send` answers the command of the errand that it is given.
+use borrow.Author.Rules.{rules}
+use Rattle.line.specs.Family.{sent}
+use Rattle.line.proofs.read.send.Goals as goal
+
+pub enum_told-1 : goal.enum_told-1
+unfolding sent
+enum_told-1 c = search rules
+
+pub enum_told-in-Recall : goal.enum_told-in-Recall
+unfolding sent
+enum_told-in-Recall c = search rules
+
+pub enum_told-in-Delete : goal.enum_told-in-Delete
+unfolding sent
+enum_told-in-Delete c = search rules
+
+pub returns-in-Start : goal.returns-in-Start
+unfolding sent
+returns-in-Start c = rw c.in-Start.is
+
+pub returns-in-Recall : goal.returns-in-Recall
+unfolding sent
+returns-in-Recall c = rw c.in-Recall.is
+
+pub returns-in-Delete : goal.returns-in-Delete
+unfolding sent
+returns-in-Delete c = rw c.in-Delete.is

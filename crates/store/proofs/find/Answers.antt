@@ -1,0 +1,25 @@
+-- The loop keeps what is left to look at; a name that is found says the whole.
+use Prim.Native.Nat.{◌-◌}
+use native.Mathlib.Omega.{arith}
+use borrow.Author.Rules.{rules}
+use Rattle.store.specs.Lent.{store_of}
+use Rattle.store.proofs.Seek.{Seeking, seek_begins, seek_short, seek_room, seek_finds, seek_turns, seek_ends}
+use Rattle.store.proofs.find.Goals as goal
+
+pub loop-i-init : goal.loop-i-init
+loop-i-init c = search (rules, seek_begins)
+
+pub is_named-requires : goal.is_named-requires
+is_named-requires c = (search rules, search seek_short, search rules)
+
+pub returns-then-is_named : goal.returns-then-is_named
+returns-then-is_named c = search seek_finds
+
+pub overflow_add-start : goal.overflow_add-start
+overflow_add-start c = search seek_room
+
+pub loop-i-preserved : goal.loop-i-preserved
+loop-i-preserved c = search seek_turns
+
+pub returns : goal.returns
+returns c = search seek_ends

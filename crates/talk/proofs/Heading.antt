@@ -56,12 +56,8 @@ pub ok_told : (old : List ℕ) (at : ℕ) (b₁ : List ℕ) (o : ℕ) (b₂ : Li
 unfolding ok_head head_of bytes
 ok_told old at b₁ o b₂ k b₃ end new r t left len = head_told old at b₁ o b₂ k b₃ end new r 111 107 (t ∷ left ∷ len ∷ [])
 
--- the refusals that give one number: all but the ninth
-abbrev others : List ℕ
-others = 0 ∷ 1 ∷ 2 ∷ 3 ∷ 4 ∷ 5 ∷ 6 ∷ 7 ∷ 9 ∷ 10 ∷ 11 ∷ 12 ∷ 13 ∷ 14 ∷ 15 ∷ 16 ∷ 17 ∷ 18 ∷ []
-
--- that is their own
-figures_one : (why : Refusal) → OneOf others (tag_of Tag.the_type why) → R.figures (refusal_of why) ≡ number_of (refusal_of why) ∷ []
+-- the refusals that give one number, which is their own: all but the ninth
+figures_one : (why : Refusal) → ((line : ℕ) → why ≡ W.Unsound line → ⊥) → R.figures (refusal_of why) ≡ number_of (refusal_of why) ∷ []
 unfolding R.figures refusal_of number_of first
 figures_one W.TooLong h = refl
 figures_one W.ControlByte h = refl
@@ -71,7 +67,7 @@ figures_one W.Malformed h = refl
 figures_one W.OutOfRange h = refl
 figures_one W.Overfull h = refl
 figures_one W.IsSpoiled h = refl
-figures_one (W.Unsound line) h = absurd (miss others 8 tt h)
+figures_one (W.Unsound line) h = absurd (h line refl)
 figures_one W.NameTaken h = refl
 figures_one W.NoRoom h = refl
 figures_one W.Absent h = refl
@@ -84,7 +80,7 @@ figures_one W.NoTablet h = refl
 figures_one W.HeldOpen h = refl
 
 -- one number
-pub one_figure : (old : List ℕ) (at n : ℕ) (new : List ℕ) (r : ℕ) (why : Refusal) → OneOf others (tag_of Tag.the_type why) → n ≡ number_of (refusal_of why)
+pub one_figure : (old : List ℕ) (at n : ℕ) (new : List ℕ) (r : ℕ) (why : Refusal) → ((line : ℕ) → why ≡ W.Unsound line → ⊥) → n ≡ number_of (refusal_of why)
     → Writes old at (listed (n ∷ [])) new r → Writes old at (listed (R.figures (refusal_of why))) new r
 one_figure old at n new r why h e w = rw (figures_one why h, ← e) w
 

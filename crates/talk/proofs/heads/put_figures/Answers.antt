@@ -4,7 +4,7 @@ use Rattle.talk.proofs.Heading.{one_figure, two_figures}
 use Rattle.talk.proofs.heads.put_figures.Goals as goal
 
 pub returns-in_default : goal.returns-in_default
-returns-in_default c = (search one_figure, search rules)
+returns-in_default c = record { writes = search one_figure; upper_bound = search rules }
 
 pub returns : goal.returns
-returns c = (search two_figures, search rules)
+returns c = record { writes = search two_figures; upper_bound = search rules }

@@ -4,4 +4,4 @@ use Rattle.talk.proofs.Heading.{no_told}
 use Rattle.talk.proofs.heads.put_no.Goals as goal
 
 pub returns : goal.returns
-returns c = (search no_told, search rules)
+returns c = record { writes = search no_told; upper_bound = search rules }

@@ -4,4 +4,4 @@ use Rattle.talk.proofs.Heading.{ok_told}
 use Rattle.talk.proofs.heads.put_ok.Goals as goal
 
 pub returns : goal.returns
-returns c = (search ok_told, search rules)
+returns c = record { writes = search ok_told; upper_bound = search rules }

@@ -11,4 +11,4 @@ pub put_decimal-requires : goal.put_decimal-requires
 put_decimal-requires c = let few : length (decimal c.args.n) ≤ 20 = digits_few _ (search rules) in omega arith
 
 pub returns : goal.returns
-returns c = (search spaced_number, let few = digits_few c.args.n (search rules) in omega arith)
+returns c = record { writes = search spaced_number; upper_bound = let few = digits_few c.args.n (search rules) in omega arith }

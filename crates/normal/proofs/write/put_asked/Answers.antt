@@ -1,0 +1,16 @@
+-- `put_asked` writes the first parts of a `V` line.
+use borrow.Author.Rules.{rules}
+use Rattle.normal.proofs.Piece.{rooms, byte_then, commaed_then}
+use Rattle.normal.proofs.write.put_asked.Goals as goal
+
+pub put-a-requires : goal.put-a-requires
+put-a-requires c = omega rooms
+
+pub put_two_part-b-requires : goal.put_two_part-b-requires
+put_two_part-b-requires c = omega rooms
+
+pub put_len-requires : goal.put_len-requires
+put_len-requires c = omega rooms
+
+pub returns : goal.returns
+returns c = search (byte_then, commaed_then)

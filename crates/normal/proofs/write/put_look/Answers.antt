@@ -1,0 +1,19 @@
+-- `put_look` writes three numbers and a letter, a comma behind each.
+use borrow.Author.Rules.{rules}
+use Rattle.normal.proofs.Piece.{rooms, commaed_then}
+use Rattle.normal.proofs.write.put_look.Goals as goal
+
+pub put_part-a-requires : goal.put_part-a-requires
+put_part-a-requires c = omega rooms
+
+pub put_part-b-requires : goal.put_part-b-requires
+put_part-b-requires c = omega rooms
+
+pub put_part-c-requires : goal.put_part-c-requires
+put_part-c-requires c = omega rooms
+
+pub put_letter_part-requires : goal.put_letter_part-requires
+put_letter_part-requires c = omega rooms
+
+pub returns : goal.returns
+returns c = search commaed_then

@@ -10,10 +10,4 @@ pub mod Memory
 pub mod Ends
 pub mod Onward
 pub mod Distinct
-pub mod Relent
-pub mod Frame
-pub mod Short
-pub mod Reading
-pub mod Writing
 pub mod Planning
-pub mod Both

@@ -58,36 +58,21 @@ ends ls text old new start at g l n =
     h.is ∙ rw (all, cut)
 
 -- a place in the text, with what is noted before it
-pub record Trail (text old : List ℕ) : Type 0 where
-  pub at : ℕ
-  pub start : ℕ
-  pub ys : List ℕ
-  pub long : length ys ≡ length old
-  pub at_fits : at < 2 ^ 64
-  pub start_fits : start < 2 ^ 64
+pub record Trails (text ys : List ℕ) (start at : ℕ) : Type 0 where
   pub ok : (ls : List FormLine) → text ≡ text_of ls → Storable width ls → Going ls text ys start at
 
-abbrev pub Nearer : (text old : List ℕ) → Trail text old → Trail text old → Type 0
-Nearer text old x y = length text - x.at < length text - y.at
-
-pub NearerWf : (text old : List ℕ) → WellFounded (Nearer text old)
-NearerWf text old = InvImage.wf (λ (x : Trail text old). length text - x.at) lt-wf_rel.wf
-
 module _ (text old : List ℕ) (p : Plannable text old) where
-  abbrev pub at_first : 0 < 2 ^ 64 → Trail text old
-  at_first f = record { at = 0; start = 0; ys = old; long = refl; at_fits = f; start_fits = f; ok = λ ls e s. begins ls text old p.clear e s }
+  pub trails_first : Trails text old 0 0
+  trails_first = record { ok = λ ls e s. begins ls text old p.clear e s }
 
-  pub walking : (x : Trail text old) → x.at < length text → Walking text x.ys x.start x.at
-  walking x less = record { lines = p.lines; going = x.ok p.lines p.is p.storable; before = less }
+  pub trails_walk : (ys : List ℕ) (start at : ℕ) → Trails text ys start at → at < length text → Walking text ys start at
+  trails_walk ys start at x less = record { lines = p.lines; going = x.ok p.lines p.is p.storable; before = less }
 
-  pub on_ok : (x : Trail text old) (zs : List ℕ) (began next : ℕ) → Walked text x.ys x.start x.at zs began next → (ls : List FormLine) → text ≡ text_of ls → Storable width ls → Going ls text zs began next
-  on_ok x zs began next w ls e s = w.goes ls (x.ok ls e s)
+  pub trails_room : (ys : List ℕ) (start at : ℕ) → Trails text ys start at → PieceRoom ys
+  trails_room ys start at x = let g = x.ok p.lines p.is p.storable in piece_room g.defines g.done ys g.holds (omega (arith, g.short))
 
-  pub on_nearer : (x : Trail text old) (zs : List ℕ) (began next : ℕ) → x.at < length text → Walked text x.ys x.start x.at zs began next → length text - next < length text - x.at
-  on_nearer x zs began next less w = omega (arith, less, w.onward)
+pub trails_on : (text ys : List ℕ) (start at : ℕ) (zs : List ℕ) (began next : ℕ) → Trails text ys start at → Walked text ys start at zs began next → Trails text zs began next
+trails_on text ys start at zs began next x w = record { ok = λ ls e s. w.goes ls (x.ok ls e s) }
 
-  pub last_room : (x : Trail text old) → PieceRoom x.ys
-  last_room x = let g = x.ok p.lines p.is p.storable in piece_room g.defines g.done x.ys g.holds (omega (arith, g.short))
-
-  pub plan_made : (x : Trail text old) (zs : List ℕ) → length text ≤ x.at → OpenNoted x.ys x.start x.at zs → Plans text zs
-  plan_made x zs l n = record { plans = λ ls e s. ends ls text x.ys zs x.start x.at (x.ok ls e s) l n }
+pub trails_made : (text ys : List ℕ) (start at : ℕ) (zs : List ℕ) → Trails text ys start at → length text ≤ at → OpenNoted ys start at zs → Plans text zs
+trails_made text ys start at zs x l n = record { plans = λ ls e s. ends ls text ys zs start at (x.ok ls e s) l n }

@@ -1,6 +1,6 @@
 -- The value that a line shows at its end, and the string that is joined to it, by the rules of a sound form.
 use Prim.Native.Nat.{ℕ, ◌+◌}
-use mathlib.Core.Path.{◌≡◌, refl, sym, ◌∙◌}
+use mathlib.Core.Path.{◌≡◌, refl, sym, subst, ◌∙◌}
 use mathlib.Core.Bool.{Bool, true, false, not, ◌&&◌}
 use mathlib.Core.List.{List, [], ◌++◌}
 use native.Mathlib.Omega.{arith}
@@ -102,7 +102,8 @@ module _ (lens line : List ℕ) (ending : Ending) (tail n : ℕ) (opens : Bool) 
   pub alone_sound : opens ≡ true → Drawn lens line (λ above d. not (eqb len 0) ≡ all (draw_sound above d))
   alone_sound o d above e g a =
       let (v, w, slot) = shows d e g in
-      let asked = rw (w, o) at (asks above d) in
+      let shown : Asks above d (value opens v) = rw w at (asks above d) in
+      let asked : Asks above d (value true v) = subst (λ (b : Bool). Asks above d (value b v)) o shown in
       rw asked (shown_sound lens above v n len a slot noted)
 
   -- one behind a string
@@ -110,5 +111,7 @@ module _ (lens line : List ℕ) (ending : Ending) (tail n : ℕ) (opens : Bool) 
   unfolding draw_sound
   joins_sound string r o counts k d above e g a =
       let (v, w, slot) = shows d e g in
-      let (s, t, joins) = rw (w, o) at (asks above d) in
+      let shown : Asks above d (value opens v) = rw w at (asks above d) in
+      let joined : Asks above d (value false v) = subst (λ (b : Bool). Asks above d (value b v)) o shown in
+      let (s, t, joins) = joined in
       rw joins (joined_sound lens above t v string n len r a slot noted (counts s t v (rw joins at e) (rw joins at g)) k)

@@ -1,0 +1,19 @@
+-- Each return is the law of the bytes that were tested before it.
+use Rattle.form.proofs.LastBytes.{whole_short, whole_other, whole_closed, counter_ends, variable_ends}
+use borrow.Author.Rules.{rules}
+use Rattle.form.proofs.ending.ending_of.Goals as goal
+
+pub returns-then-size-lt4 : goal.returns-then-size-lt4
+returns-then-size-lt4 c = search whole_short
+
+pub returns-then-line-ne65 : goal.returns-then-line-ne65
+returns-then-line-ne65 c = search whole_other
+
+pub returns-then-last-eq34 : goal.returns-then-last-eq34
+returns-then-last-eq34 c = search whole_closed
+
+pub returns-then-second-eq67 : goal.returns-then-second-eq67
+returns-then-second-eq67 c = search counter_ends
+
+pub returns : goal.returns
+returns c = search variable_ends

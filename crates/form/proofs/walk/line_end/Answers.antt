@@ -1,0 +1,18 @@
+-- `line_end` walks to the first LF: the end of the line from `i` on is the end of the whole line.
+use Prim.Native.Nat.{◌+◌, ◌-◌}
+use mathlib.Core.Path.{◌≡◌, refl}
+use native.Mathlib.Omega.{arith}
+use lib.ListN.{length}
+use Rattle.text.specs.Place.{from}
+use Rattle.form.specs.Walk.{first_line}
+use Rattle.form.proofs.Lines.{end_turns, end_here, end_none}
+use Rattle.form.proofs.walk.line_end.Goals as goal
+
+pub returns-then-text-i-eq10 : goal.returns-then-text-i-eq10
+returns-then-text-i-eq10 c = search end_here
+
+pub loop-i-preserved : goal.loop-i-preserved
+loop-i-preserved c = search end_turns
+
+pub returns : goal.returns
+returns c = search end_none

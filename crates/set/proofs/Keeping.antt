@@ -72,7 +72,7 @@ pub from_length : (place : ℕ) (values : List ℕ) (ds : List P.Define) (given 
 unfolding values_from with_answer
 from_length place values [] given = refl
 from_length place values (d ∷ ds) [] = refl
-from_length place values (d ∷ ds) (a ∷ more) = from_length _ _ ds more ∙ four_length values _ _ _ _ _
+from_length place values (d ∷ ds) (a ∷ more) = from_length (place + length a) (with_answer values d a place) ds more ∙ four_length values _ _ _ _ _
 
 -- answers to other definitions leave a value's numbers
 from_other : (place : ℕ) (values : List ℕ) (ds : List P.Define) (given : List (List ℕ)) (v : P.Value) (m : ℕ) → Small v → Ranged ds → defined v ds ≡ none → number_of v * 4 ≤ m → m < number_of v * 4 + 4
@@ -81,7 +81,7 @@ unfolding values_from with_answer
 from_other place values [] given v m s r e h k = refl
 from_other place values (d ∷ ds) [] v m s r e h k = refl
 from_other place values (d ∷ ds) (a ∷ more) v m s r e h k =
-    from_other _ _ ds more v m s r.1 (not_behind v d ds e) h k
+    from_other (place + length a) (with_answer values d a place) ds more v m s r.1 (not_behind v d ds e) h k
     ∙ four_other values (number_of (value_of d)) (number_of v) _ _ _ _ m (λ q. clash (number_same v (value_of d) s (small d r.0) (sym q)) (not_first v d ds e)) h k
 
 -- a definition with its answer is kept in the values, and the answer stands in the answers

@@ -1,0 +1,12 @@
+-- The loop writes one piece after the other.
+use Prim.Native.Nat.{◌-◌}
+use native.Mathlib.Omega.{arith}
+use borrow.Author.Rules.{rules}
+use Rattle.set.proofs.Numbers.{Going, going_begins, going_room, going_told, going_inside, going_turns, going_ends, going_length}
+use Rattle.set.proofs.take.put_pieces.Given as goal
+
+abbrev pub invariant-loop-k : goal.invariant-loop-k
+invariant-loop-k l = Going l.text l.answers l.plan l.values l.i l.count l.initial.out l.at l.out l.next l.k
+
+abbrev pub decreases-loop-k : goal.decreases-loop-k
+decreases-loop-k l = l.count - l.k

@@ -1,3 +1,4 @@
+pub mod Tags
 pub mod Held
 pub mod Refusing
 pub mod Room

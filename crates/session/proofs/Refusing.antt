@@ -82,12 +82,12 @@ file_not_now f o session h = record { refused = no; stays = same }
 
     same : (fs : List Form) (n : ℕ) (st : P.Session) → session ≡ packed_session fs n st → after_command n fs st (file f) ≡ n
     same fs n P.idle e = absurd (wrong (1 ∷ 2 ∷ 3 ∷ 4 ∷ 5 ∷ 6 ∷ []) session fs n P.idle e h tt)
-    same fs n (P.collecting name ls) e = by f fs n _ (λ a b. refl)
-    same fs n P.spoiled e = by f fs n _ (λ a b. refl)
-    same fs n (P.opened ls) e = by f fs n _ (λ a b. refl)
-    same fs n (P.answering ls given) e = by f fs n _ (λ a b. refl)
-    same fs n (P.ready ls given) e = by f fs n _ (λ a b. refl)
-    same fs n (P.printing ls given k c i) e = by f fs n _ (λ a b. refl)
+    same fs n (P.collecting name ls) e = by f fs n (P.collecting name ls) (λ a b. refl)
+    same fs n P.spoiled e = by f fs n P.spoiled (λ a b. refl)
+    same fs n (P.opened ls) e = by f fs n (P.opened ls) (λ a b. refl)
+    same fs n (P.answering ls given) e = by f fs n (P.answering ls given) (λ a b. refl)
+    same fs n (P.ready ls given) e = by f fs n (P.ready ls given) (λ a b. refl)
+    same fs n (P.printing ls given k c i) e = by f fs n (P.printing ls given k c i) (λ a b. refl)
 
 -- `FE` is taken while a form is collected
 pub finish_not_now : (session : Session) → Tagged (0 ∷ 3 ∷ 4 ∷ 5 ∷ 6 ∷ []) session → NotTaken session (file finish)

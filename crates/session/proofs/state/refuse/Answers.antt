@@ -1,4 +1,5 @@
 use borrow.Author.Rules.{rules}
+use Rattle.session.proofs.Tags.{tags}
 use Rattle.session.proofs.Held.{refuses, spoils, drops, stays}
 use Rattle.session.proofs.Used.{kept_used}
 use Rattle.session.proofs.state.refuse.Goals as goal
@@ -16,4 +17,4 @@ pub returns-in-Answering : goal.returns-in-Answering
 returns-in-Answering c = search (refuses, drops)
 
 pub returns-in_default : goal.returns-in_default
-returns-in_default c = search (refuses, stays)
+returns-in_default c = search (refuses, stays, tags)

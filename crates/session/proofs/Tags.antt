@@ -84,4 +84,26 @@ not_draft_or_spoiled (Answering k) h g = hit (0 ∷ 3 ∷ 4 ∷ 5 ∷ 6 ∷ []) 
 not_draft_or_spoiled Ready h g = hit (0 ∷ 3 ∷ 4 ∷ 5 ∷ 6 ∷ []) 5 tt
 not_draft_or_spoiled (Printing a b c) h g = hit (0 ∷ 3 ∷ 4 ∷ 5 ∷ 6 ∷ []) 6 tt
 
+-- the state by its arm
+pub idle_tag : (m : State) → m ≡ Idle → OneTag (0 ∷ []) m
+idle_tag m e = rw e refl
+
+pub collecting_tag : (m : State) {l : ℕ} → m ≡ Collecting l → OneTag (1 ∷ []) m
+collecting_tag m {l} e = rw e refl
+
+pub spoiled_tag : (m : State) → m ≡ Spoiled → OneTag (2 ∷ []) m
+spoiled_tag m e = rw e refl
+
+pub opened_tag : (m : State) → m ≡ Opened → OneTag (3 ∷ []) m
+opened_tag m e = rw e refl
+
+pub answering_tag : (m : State) {k : ℕ} → m ≡ Answering k → OneTag (4 ∷ []) m
+answering_tag m {k} e = rw e refl
+
+pub ready_tag : (m : State) → m ≡ Ready → OneTag (5 ∷ []) m
+ready_tag m e = rw e refl
+
+pub printing_tag : (m : State) {a b c : ℕ} → m ≡ Printing a b c → OneTag (6 ∷ []) m
+printing_tag m {a} {b} {c} e = rw e refl
+
 pub ruleset tags = (not_idle, not_collecting, not_opened, not_ready, not_printing, not_answering, not_draft_or_answer, not_draft_or_spoiled)

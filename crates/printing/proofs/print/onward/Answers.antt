@@ -1,0 +1,14 @@
+-- By whether the set was the last.
+use borrow.Author.Rules.{rules}
+use Rattle.session.proofs.Used.{kept_used}
+use Rattle.printing.proofs.Printed.{goes_idle, goes_onward}
+use Rattle.printing.proofs.print.onward.Goals as goal
+
+pub fresh-requires : goal.fresh-requires
+fresh-requires c = kept_used _ c.requires.kept
+
+pub returns-then-next-sets : goal.returns-then-next-sets
+returns-then-next-sets c = search goes_idle
+
+pub returns : goal.returns
+returns c = search goes_onward

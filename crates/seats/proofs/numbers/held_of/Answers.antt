@@ -1,0 +1,6 @@
+use borrow.Author.Rules.{rules}
+use Rattle.seats.proofs.Laid.{reads_held}
+use Rattle.seats.proofs.numbers.held_of.Goals as goal
+
+pub returns : goal.returns
+returns c = search reads_held

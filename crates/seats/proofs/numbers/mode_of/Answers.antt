@@ -20,4 +20,4 @@ pub returns-in-6 : goal.returns-in-6
 returns-in-6 c = search tag_printing
 
 pub returns-in_default : goal.returns-in_default
-returns-in_default c = let r = c.in_default.rest in tag_idle _ _ _ _ r.0.0.0.0.0.1 r.0.0.0.0.1 r.0.0.0.1 r.0.0.1 r.0.1 r.1
+returns-in_default c = search tag_idle

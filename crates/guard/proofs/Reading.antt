@@ -7,7 +7,7 @@ use mathlib.Core.List.{List, [], ◌∷◌}
 use mathlib.Core.Option.{Option, none, some, some-injective}
 use native.Mathlib.Omega.{arith}
 use denote.Enum.Declared.{tag_of}
-use types.Run.{OneOf, miss}
+use types.Run.{OneOf, hit, miss}
 use lib.ListN.{length}
 use borrow.Author.Tests.{lt-ltb}
 use Rattle.paper.specs.Line.{long}
@@ -116,6 +116,48 @@ unstarted = 0 ∷ 1 ∷ 2 ∷ 3 ∷ 4 ∷ 5 ∷ 6 ∷ 7 ∷ 8 ∷ 9 ∷ 10 ∷ 1
 abbrev undeleted : List ℕ
 undeleted = 0 ∷ 1 ∷ 2 ∷ 3 ∷ 4 ∷ 5 ∷ 6 ∷ 7 ∷ 8 ∷ 9 ∷ 10 ∷ 11 ∷ 12 ∷ 13 ∷ 14 ∷ 15 ∷ 17 ∷ 18 ∷ []
 
+not_start : (c : Command) → ((name : Span) → c ≡ L.Start name → ⊥) → OneOf unstarted (tag_of Tag.the_type c)
+not_start L.Empty h = hit unstarted 0 tt
+not_start L.New h = hit unstarted 1 tt
+not_start L.Finish h = hit unstarted 2 tt
+not_start L.Inform h = hit unstarted 3 tt
+not_start L.Ask h = hit unstarted 4 tt
+not_start (L.Size p₁ p₂) h = hit unstarted 5 tt
+not_start (L.Direction d) h = hit unstarted 6 tt
+not_start (L.Text put) h = hit unstarted 7 tt
+not_start (L.Black b) h = hit unstarted 8 tt
+not_start (L.Flip b) h = hit unstarted 9 tt
+not_start (L.White b) h = hit unstarted 10 tt
+not_start (L.Frame x₁ y₁ t x₂ y₂) h = hit unstarted 11 tt
+not_start (L.Counting n len step prompt) h = hit unstarted 12 tt
+not_start (L.Varying n len prompt) h = hit unstarted 13 tt
+not_start (L.Start name) h = absurd (h name refl)
+not_start (L.Recall name) h = hit unstarted 15 tt
+not_start (L.Delete name) h = hit unstarted 16 tt
+not_start (L.Print sets copies) h = hit unstarted 17 tt
+not_start (L.Refused why) h = hit unstarted 18 tt
+
+not_delete : (c : Command) → ((name : Span) → c ≡ L.Delete name → ⊥) → OneOf undeleted (tag_of Tag.the_type c)
+not_delete L.Empty h = hit undeleted 0 tt
+not_delete L.New h = hit undeleted 1 tt
+not_delete L.Finish h = hit undeleted 2 tt
+not_delete L.Inform h = hit undeleted 3 tt
+not_delete L.Ask h = hit undeleted 4 tt
+not_delete (L.Size p₁ p₂) h = hit undeleted 5 tt
+not_delete (L.Direction d) h = hit undeleted 6 tt
+not_delete (L.Text put) h = hit undeleted 7 tt
+not_delete (L.Black b) h = hit undeleted 8 tt
+not_delete (L.Flip b) h = hit undeleted 9 tt
+not_delete (L.White b) h = hit undeleted 10 tt
+not_delete (L.Frame x₁ y₁ t x₂ y₂) h = hit undeleted 11 tt
+not_delete (L.Counting n len step prompt) h = hit undeleted 12 tt
+not_delete (L.Varying n len prompt) h = hit undeleted 13 tt
+not_delete (L.Start name) h = hit undeleted 14 tt
+not_delete (L.Recall name) h = hit undeleted 15 tt
+not_delete (L.Delete name) h = absurd (h name refl)
+not_delete (L.Print sets copies) h = hit undeleted 17 tt
+not_delete (L.Refused why) h = hit undeleted 18 tt
+
 -- what an `FS` line and what an `FK` line is read as
 pub start_read : (s : List ℕ) (c : Command) → Led s (code "S") → Gives s (name_line (filing E.Start) (from s 2)) c → IsRead s c
 unfolding filing letter_of
@@ -154,17 +196,17 @@ module _ (store : Store) (held : List ℕ) (t : ℕ) (s : List ℕ) where
       }
 
   -- an `FS` line that is not read, and an `FK` line
-  pub start_unread : (c : Command) → Led s (code "S") → IsRead s c → OneOf unstarted (tag_of Tag.the_type c) → Guards store held t s G.Free
+  pub start_unread : (c : Command) → Led s (code "S") → IsRead s c → ((name : Span) → c ≡ L.Start name → ⊥) → Guards store held t s G.Free
   start_unread c l i h =
       guards_free
-      (λ name e. absurd (miss unstarted 14 tt (rw (filed_tag s c (C.start name) (ap filing_read i.view ∙ e)) at h)))
+      (λ name e. absurd (miss unstarted 14 tt (rw (filed_tag s c (C.start name) (ap filing_read i.view ∙ e)) at (not_start c h))))
       (λ name e. absurd (start_deletes s name l e))
 
-  pub delete_unread : (c : Command) → Led s (code "K") → IsRead s c → OneOf undeleted (tag_of Tag.the_type c) → Guards store held t s G.Free
+  pub delete_unread : (c : Command) → Led s (code "K") → IsRead s c → ((name : Span) → c ≡ L.Delete name → ⊥) → Guards store held t s G.Free
   delete_unread c l i h =
       guards_free
       (λ name e. absurd (delete_starts s name l e))
-      (λ name e. absurd (miss undeleted 16 tt (rw (filed_tag s c (C.delete name) (ap filing_read i.view ∙ e)) at h)))
+      (λ name e. absurd (miss undeleted 16 tt (rw (filed_tag s c (C.delete name) (ap filing_read i.view ∙ e)) at (not_delete c h))))
 
   -- an `FS` line while no other collects, and an `FK` line while no other holds a form open, whatever their names
   pub guards_alone : (r : Bool) → Led s (code "S") → Asked held t 1 2 0 0 r → r ≡ false → Guards store held t s G.Free

@@ -4,7 +4,7 @@ use mathlib.Core.Path.{◌≡◌, refl, sym, ◌∙◌, ap, subst}
 use mathlib.Core.Bool.{true, false}
 use mathlib.Core.List.{List, [], ◌∷◌}
 use denote.Enum.Declared.{tag_of}
-use types.Run.{OneOf, miss}
+use types.Run.{OneOf, hit, miss}
 use lib.ListN.{length}
 use borrow.Author.Tests.{lt-ltb}
 use Rattle.paper.specs.Line.{long, control}
@@ -111,27 +111,64 @@ unfolding view_of
 prints_few s c sets copies i e = (print_in width sets copies (read_range s c (C.print sets copies) i (ap (view_of s) e))).1
 
 -- every other line is one for a form
-pub keeps_line : (s : List ℕ) (c : Command) → OneOf (5 ∷ 6 ∷ 7 ∷ 8 ∷ 9 ∷ 10 ∷ 11 ∷ 12 ∷ 13 ∷ []) (tag_of Tag.the_type c) → Keeps s c
+keeps_tagged : (s : List ℕ) (c : Command) → OneOf (5 ∷ 6 ∷ 7 ∷ 8 ∷ 9 ∷ 10 ∷ 11 ∷ 12 ∷ 13 ∷ []) (tag_of Tag.the_type c) → Keeps s c
 unfolding view_of put_of bar_of
-keeps_line s L.Empty h = absurd (miss (5 ∷ 6 ∷ 7 ∷ 8 ∷ 9 ∷ 10 ∷ 11 ∷ 12 ∷ 13 ∷ []) 0 tt h)
-keeps_line s L.New h = absurd (miss (5 ∷ 6 ∷ 7 ∷ 8 ∷ 9 ∷ 10 ∷ 11 ∷ 12 ∷ 13 ∷ []) 1 tt h)
-keeps_line s L.Finish h = absurd (miss (5 ∷ 6 ∷ 7 ∷ 8 ∷ 9 ∷ 10 ∷ 11 ∷ 12 ∷ 13 ∷ []) 2 tt h)
-keeps_line s L.Inform h = absurd (miss (5 ∷ 6 ∷ 7 ∷ 8 ∷ 9 ∷ 10 ∷ 11 ∷ 12 ∷ 13 ∷ []) 3 tt h)
-keeps_line s L.Ask h = absurd (miss (5 ∷ 6 ∷ 7 ∷ 8 ∷ 9 ∷ 10 ∷ 11 ∷ 12 ∷ 13 ∷ []) 4 tt h)
-keeps_line s (L.Size p₁ p₂) h = record { line = _; is = refl }
-keeps_line s (L.Direction d) h = record { line = _; is = refl }
-keeps_line s (L.Text put) h = record { line = _; is = refl }
-keeps_line s (L.Black b) h = record { line = _; is = refl }
-keeps_line s (L.Flip b) h = record { line = _; is = refl }
-keeps_line s (L.White b) h = record { line = _; is = refl }
-keeps_line s (L.Frame x₁ y₁ t x₂ y₂) h = record { line = _; is = refl }
-keeps_line s (L.Counting n len step prompt) h = record { line = _; is = refl }
-keeps_line s (L.Varying n len prompt) h = record { line = _; is = refl }
-keeps_line s (L.Start name) h = absurd (miss (5 ∷ 6 ∷ 7 ∷ 8 ∷ 9 ∷ 10 ∷ 11 ∷ 12 ∷ 13 ∷ []) 14 tt h)
-keeps_line s (L.Recall name) h = absurd (miss (5 ∷ 6 ∷ 7 ∷ 8 ∷ 9 ∷ 10 ∷ 11 ∷ 12 ∷ 13 ∷ []) 15 tt h)
-keeps_line s (L.Delete name) h = absurd (miss (5 ∷ 6 ∷ 7 ∷ 8 ∷ 9 ∷ 10 ∷ 11 ∷ 12 ∷ 13 ∷ []) 16 tt h)
-keeps_line s (L.Print sets copies) h = absurd (miss (5 ∷ 6 ∷ 7 ∷ 8 ∷ 9 ∷ 10 ∷ 11 ∷ 12 ∷ 13 ∷ []) 17 tt h)
-keeps_line s (L.Refused why) h = absurd (miss (5 ∷ 6 ∷ 7 ∷ 8 ∷ 9 ∷ 10 ∷ 11 ∷ 12 ∷ 13 ∷ []) 18 tt h)
+keeps_tagged s L.Empty h = absurd (miss (5 ∷ 6 ∷ 7 ∷ 8 ∷ 9 ∷ 10 ∷ 11 ∷ 12 ∷ 13 ∷ []) 0 tt h)
+keeps_tagged s L.New h = absurd (miss (5 ∷ 6 ∷ 7 ∷ 8 ∷ 9 ∷ 10 ∷ 11 ∷ 12 ∷ 13 ∷ []) 1 tt h)
+keeps_tagged s L.Finish h = absurd (miss (5 ∷ 6 ∷ 7 ∷ 8 ∷ 9 ∷ 10 ∷ 11 ∷ 12 ∷ 13 ∷ []) 2 tt h)
+keeps_tagged s L.Inform h = absurd (miss (5 ∷ 6 ∷ 7 ∷ 8 ∷ 9 ∷ 10 ∷ 11 ∷ 12 ∷ 13 ∷ []) 3 tt h)
+keeps_tagged s L.Ask h = absurd (miss (5 ∷ 6 ∷ 7 ∷ 8 ∷ 9 ∷ 10 ∷ 11 ∷ 12 ∷ 13 ∷ []) 4 tt h)
+keeps_tagged s (L.Size p₁ p₂) h = record { line = _; is = refl }
+keeps_tagged s (L.Direction d) h = record { line = _; is = refl }
+keeps_tagged s (L.Text put) h = record { line = _; is = refl }
+keeps_tagged s (L.Black b) h = record { line = _; is = refl }
+keeps_tagged s (L.Flip b) h = record { line = _; is = refl }
+keeps_tagged s (L.White b) h = record { line = _; is = refl }
+keeps_tagged s (L.Frame x₁ y₁ t x₂ y₂) h = record { line = _; is = refl }
+keeps_tagged s (L.Counting n len step prompt) h = record { line = _; is = refl }
+keeps_tagged s (L.Varying n len prompt) h = record { line = _; is = refl }
+keeps_tagged s (L.Start name) h = absurd (miss (5 ∷ 6 ∷ 7 ∷ 8 ∷ 9 ∷ 10 ∷ 11 ∷ 12 ∷ 13 ∷ []) 14 tt h)
+keeps_tagged s (L.Recall name) h = absurd (miss (5 ∷ 6 ∷ 7 ∷ 8 ∷ 9 ∷ 10 ∷ 11 ∷ 12 ∷ 13 ∷ []) 15 tt h)
+keeps_tagged s (L.Delete name) h = absurd (miss (5 ∷ 6 ∷ 7 ∷ 8 ∷ 9 ∷ 10 ∷ 11 ∷ 12 ∷ 13 ∷ []) 16 tt h)
+keeps_tagged s (L.Print sets copies) h = absurd (miss (5 ∷ 6 ∷ 7 ∷ 8 ∷ 9 ∷ 10 ∷ 11 ∷ 12 ∷ 13 ∷ []) 17 tt h)
+keeps_tagged s (L.Refused why) h = absurd (miss (5 ∷ 6 ∷ 7 ∷ 8 ∷ 9 ∷ 10 ∷ 11 ∷ 12 ∷ 13 ∷ []) 18 tt h)
+
+-- a line that is none of the others
+pub record Others (c : Command) : Type 0 where
+  pub no_empty : c ≡ L.Empty → ⊥
+  pub no_new : c ≡ L.New → ⊥
+  pub no_start : (name : Span) → c ≡ L.Start name → ⊥
+  pub no_finish : c ≡ L.Finish → ⊥
+  pub no_inform : c ≡ L.Inform → ⊥
+  pub no_recall : (name : Span) → c ≡ L.Recall name → ⊥
+  pub no_delete : (name : Span) → c ≡ L.Delete name → ⊥
+  pub no_ask : c ≡ L.Ask → ⊥
+  pub no_print : (sets : ℕ) (copies : ℕ) → c ≡ L.Print sets copies → ⊥
+  pub no_refused : (why : Refusal) → c ≡ L.Refused why → ⊥
+
+one_kept : (c : Command) → Others c → OneOf (5 ∷ 6 ∷ 7 ∷ 8 ∷ 9 ∷ 10 ∷ 11 ∷ 12 ∷ 13 ∷ []) (tag_of Tag.the_type c)
+one_kept L.Empty h = absurd (h.no_empty refl)
+one_kept L.New h = absurd (h.no_new refl)
+one_kept L.Finish h = absurd (h.no_finish refl)
+one_kept L.Inform h = absurd (h.no_inform refl)
+one_kept L.Ask h = absurd (h.no_ask refl)
+one_kept (L.Size p₁ p₂) h = hit (5 ∷ 6 ∷ 7 ∷ 8 ∷ 9 ∷ 10 ∷ 11 ∷ 12 ∷ 13 ∷ []) 5 tt
+one_kept (L.Direction d) h = hit (5 ∷ 6 ∷ 7 ∷ 8 ∷ 9 ∷ 10 ∷ 11 ∷ 12 ∷ 13 ∷ []) 6 tt
+one_kept (L.Text put) h = hit (5 ∷ 6 ∷ 7 ∷ 8 ∷ 9 ∷ 10 ∷ 11 ∷ 12 ∷ 13 ∷ []) 7 tt
+one_kept (L.Black b) h = hit (5 ∷ 6 ∷ 7 ∷ 8 ∷ 9 ∷ 10 ∷ 11 ∷ 12 ∷ 13 ∷ []) 8 tt
+one_kept (L.Flip b) h = hit (5 ∷ 6 ∷ 7 ∷ 8 ∷ 9 ∷ 10 ∷ 11 ∷ 12 ∷ 13 ∷ []) 9 tt
+one_kept (L.White b) h = hit (5 ∷ 6 ∷ 7 ∷ 8 ∷ 9 ∷ 10 ∷ 11 ∷ 12 ∷ 13 ∷ []) 10 tt
+one_kept (L.Frame x₁ y₁ t x₂ y₂) h = hit (5 ∷ 6 ∷ 7 ∷ 8 ∷ 9 ∷ 10 ∷ 11 ∷ 12 ∷ 13 ∷ []) 11 tt
+one_kept (L.Counting n len step prompt) h = hit (5 ∷ 6 ∷ 7 ∷ 8 ∷ 9 ∷ 10 ∷ 11 ∷ 12 ∷ 13 ∷ []) 12 tt
+one_kept (L.Varying n len prompt) h = hit (5 ∷ 6 ∷ 7 ∷ 8 ∷ 9 ∷ 10 ∷ 11 ∷ 12 ∷ 13 ∷ []) 13 tt
+one_kept (L.Start name) h = absurd (h.no_start name refl)
+one_kept (L.Recall name) h = absurd (h.no_recall name refl)
+one_kept (L.Delete name) h = absurd (h.no_delete name refl)
+one_kept (L.Print sets copies) h = absurd (h.no_print sets copies refl)
+one_kept (L.Refused why) h = absurd (h.no_refused why refl)
+
+pub keeps_line : (s : List ℕ) (c : Command) → Others c → Keeps s c
+keeps_line s c h = keeps_tagged s c (one_kept c h)
 
 -- the empty line does nothing
 obeys_empty : (session : Session) (shelf : Shelf) (b : List ℕ) → Obeys session shelf C.empty b b (A.Accepted 0) session shelf

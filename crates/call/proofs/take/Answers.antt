@@ -1,0 +1,16 @@
+-- A set is taken by a step, and the session's numbers go back to memory.
+use borrow.Author.Rules.{rules}
+use Rattle.call.proofs.Calling.{slices_ten, slices_showing, slices_taken}
+use Rattle.call.proofs.take.Goals as goal
+
+pub held_of-requires : goal.held_of-requires
+held_of-requires c = search slices_ten
+
+pub take_next-turn-requires : goal.take_next-turn-requires
+take_next-turn-requires c = search slices_showing
+
+pub put_held-requires : goal.put_held-requires
+put_held-requires c = slices_ten _ _ _ _ _ _ _ _ _ _ _ c.requires
+
+pub returns : goal.returns
+returns c = slices_taken _ _ _ _ _ _ _ _ _ _ _ _ c.requires c.held_of.ensures _ _ _ _ _ _ _ _ c.take_next-turn.ensures c.put_held.ensures

@@ -1,12 +1,17 @@
 -- What a call of `read` or `write` comes to, and what may become of a whole read or write. Assumes nothing.
-use Rattle.std.specs.Prelude.{ℕ, ◌≤◌, ◌<◌, ◌≡◌, Bool, true, false, ◌||◌, List, eqb, ltb, ℤ, pos, negsuc}
-use Rattle.io.specs.Counts.{IsPrefixLen}
+use Rattle.std.specs.Prelude.{ℕ, ◌≤◌, ◌<◌, ◌≡◌, Bool, false, ◌||◌, if◌then◌else◌, List, eqb, ltb, ℤ, pos, negsuc}
+use Rattle.std.specs.Counts.{IsPrefixLen}
 use Rattle.streams.specs.declared.Read.{Read}
 use Rattle.streams.specs.declared.Read.TheVariants as R
 use Rattle.streams.specs.declared.Written.{Written}
 use Rattle.streams.specs.declared.Written.TheVariants as W
 use Rattle.streams.specs.declared.Tried.{Tried}
 use Rattle.streams.specs.declared.Tried.TheVariants.{Moved, Nothing, Again, Failed}
+
+-- what a call that succeeds or fails may answer: 0, or -1
+abbrev pub Status : ℤ → Type 0
+Status (pos k) = k ≡ 0
+Status (negsuc k) = k ≡ 0
 
 -- z is the number n
 abbrev pub is : ℕ → ℤ → Bool
@@ -16,12 +21,6 @@ is n (negsuc k) = false
 -- the errors that pass: EINTR, of a call that a signal interrupted, and EAGAIN, of one that would block
 abbrev pub passing : ℤ → Bool
 passing error = is 4 error || is 11 error
-
-infix 5 if◌then◌else◌
--- one of two, by a test
-abbrev pub if◌then◌else◌ : Bool → Tried → Tried → Tried
-if true then a else b = a
-if false then a else b = b
 
 -- what a call came to that answered `got`, moved n bytes and left this error
 unfoldable pub tried : ℤ → ℤ → ℕ → Tried

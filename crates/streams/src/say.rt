@@ -1,15 +1,18 @@
 // Why a stream failed, in one line on standard error.
 ghost use Rattle.std.specs.Prelude.{◌<◌, length};
-ghost use Rattle.io.specs.Counts.{IsPrefixLen};
+ghost use Rattle.std.specs.Counts.{IsPrefixLen};
 
+use crate::errors::{EBADF, EFBIG, EINVAL, EIO, EISDIR, ENOSPC, EPIPE};
 use crate::write_whole;
-use libc::STDERR_FILENO;
+use itoa::Buffer;
+use std::io::Write;
+use std::rt::Clock;
 
-// Writes `WHAT: WHY` as one line to standard error, whatever becomes of it. A line of over 128 bytes loses its last words.
-pub fn complain(what: &[u8], error: i32) {
+// Writes `WHAT: WHY` as one line to standard error, which is lent, whatever becomes of it. A line of over 128 bytes loses its last words.
+pub fn complain(clock: &impl Clock, to: &mut impl Write, what: &[u8], error: i32) {
     let mut line = [0u8; 128];
     let n = compose(&mut line, what, error);
-    write_whole(STDERR_FILENO, &line[..n]);
+    write_whole(clock, to, &line[..n]);
 }
 
 // Puts the line at the start of `line`, its end included, and answers how many bytes it has.
@@ -24,37 +27,35 @@ fn compose(line: &mut [u8], what: &[u8], error: i32) -> usize
     at + 1
 }
 
-// The error in words, where it is one that a read or a write usually fails with, else its number. The kit's words for
-// errno are to be had only together with writes that give up when they are interrupted.
+// The error in words, where it is one that a read or a write usually fails with, else its number.
 fn reason(line: &mut [u8], at: usize, error: i32) -> usize
     requires { at < length line.old }
     ensures { result < length line.new }
 {
-    if error == libc::EIO {
+    if error == EIO {
         return put(line, at, b"input/output error");
     }
-    if error == libc::EBADF {
+    if error == EBADF {
         return put(line, at, b"not open");
     }
-    if error == libc::EISDIR {
+    if error == EISDIR {
         return put(line, at, b"is a directory");
     }
-    if error == libc::EINVAL {
+    if error == EINVAL {
         return put(line, at, b"invalid argument");
     }
-    if error == libc::EFBIG {
+    if error == EFBIG {
         return put(line, at, b"file too large");
     }
-    if error == libc::ENOSPC {
+    if error == ENOSPC {
         return put(line, at, b"no space left on device");
     }
-    if error == libc::EPIPE {
+    if error == EPIPE {
         return put(line, at, b"broken pipe");
     }
     let at = put(line, at, b"error ");
-    let mut digits = [0u8; 20];
-    let n = io::decimal(number(error), &mut digits);
-    put(line, at, &digits[..n])
+    let mut digits = Buffer::new();
+    put(line, at, digits.format(number(error)).as_bytes())
 }
 
 // An error's number, which is positive.

@@ -1,18 +1,16 @@
-ghost use Rattle.libc.specs.Io.{Status};
+ghost use Rattle.streams.specs.Streams.{Status};
 
-use libc::types::timespec;
+use std::rt::Clock;
+use std::thread;
+use std::time::Duration;
 
-fn moment() -> timespec {
-    timespec {
-        tv_sec: 0,
-        tv_nsec: 1_000_000,
-    }
+fn moment() -> Duration {
+    Duration::from_millis(1)
 }
 
-pub fn pause() -> i32
+pub fn pause(clock: &impl Clock) -> i32
     ensures { Status result }
 {
-    let asked = moment();
-    let mut left = moment();
-    libc::nanosleep(&asked, &mut left)
+    thread::sleep(clock, moment());
+    0
 }

@@ -8,6 +8,8 @@ ghost use Rattle.bench.specs.Whole.{memory};
 use command::Answer;
 use desk::hear;
 use program::run;
+use std::io;
+use std::rt::Clock;
 use tablets::counts::{LAST, all_left, sets_left};
 use tablets::sets::{Served, take};
 
@@ -114,11 +116,24 @@ impl Bench {
     }
 
     // Standard input to standard output and standard error, with a buffer for each, as tablet 0.
-    pub fn run(&mut self, input: &mut [u8], out: &mut [u8], err: &mut [u8])
+    pub fn run(
+        &mut self,
+        clock: &impl Clock,
+        from: &mut impl io::Read,
+        to: &mut impl io::Write,
+        errors: &mut impl io::Write,
+        input: &mut [u8],
+        out: &mut [u8],
+        err: &mut [u8],
+    )
         requires { Starting (memory self.old) input.old out.old err.old }
         ensures { Reached (memory self.new) }
     {
         run(
+            clock,
+            from,
+            to,
+            errors,
             &mut self.forms,
             &mut self.names,
             &mut self.texts,

@@ -8,7 +8,7 @@ use tablets::counts::LAST;
 // A class begins as if its last tablet had been served, so that the turn goes on to the first.
 const LAST_TABLET: usize = 29;
 
-fn main() {
+fn main(rt: HostRuntime) {
     let mut all = [0u8; 4096];
     let mut names = [0u8; 128];
     let mut texts = [0usize; 8];
@@ -25,6 +25,10 @@ fn main() {
     let mut reply = [0u8; 99999];
     let mut out = [0u8; 65536];
     run(
+        &rt,
+        &mut rt.stdin(),
+        &mut rt.stdout(),
+        &mut rt.stderr(),
         &mut all,
         &mut names,
         &mut texts,

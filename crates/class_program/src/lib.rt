@@ -1,4 +1,4 @@
-// Reading and writing for a class: the loops around crate streams, which calls C.
+// Reading and writing for a class: the loops around crate streams, which calls the system.
 #![tactic(auto)]
 
 ghost use Rattle.std.specs.Prelude.{◌<◌, ◌≡◌, false, length};
@@ -10,18 +10,24 @@ ghost use Rattle.dialogue.specs.Fill.{desk_of, At, Stands};
 ghost use Rattle.class_program.specs.Pass.{Roomy, Passes, Obeys, Starting};
 
 use dialogue::fill::{Reach, fill};
-use libc::{STDIN_FILENO, STDOUT_FILENO};
+use std::io;
+use std::rt::Clock;
 use streams::{Read, Written, complain, read_some, write_whole};
 
 // Writes out the records that wait, and answers whether standard output took them all. Where it did not, a last line on standard
 // error says so.
-fn write_out(out: &[u8]) -> bool
+fn write_out(
+    clock: &impl Clock,
+    to: &mut impl io::Write,
+    errors: &mut impl io::Write,
+    out: &[u8],
+) -> bool
     ensures { result ≡ false → 0 < length out.now }
 {
-    match write_whole(STDOUT_FILENO, out) {
+    match write_whole(clock, to, out) {
         Written::Whole => true,
         Written::Failed { error } => {
-            complain(b"bench: standard output", error);
+            complain(clock, errors, b"bench: standard output", error);
             false
         }
     }
@@ -38,6 +44,9 @@ pub struct Passed {
 
 // Answers a whole piece of input, and empties the buffer into standard output whenever it is full, and at the end.
 fn pass(
+    clock: &impl Clock,
+    to: &mut impl io::Write,
+    errors: &mut impl io::Write,
     len: usize,
     all: &mut [u8],
     names: &mut [u8],
@@ -84,7 +93,7 @@ fn pass(
         len = reach.len;
         next = reach.next;
         let end = reach.out;
-        if !write_out(&out[..end]) {
+        if !write_out(clock, to, errors, &out[..end]) {
             return Passed {
                 len,
                 next,
@@ -115,6 +124,9 @@ fn ended(len: usize) -> Passed
 // What a read came to, and the buffer that it read into: its bytes are passed on. Where the input has ended the run ends, and where it
 // fails too, which a line says.
 fn obey(
+    clock: &impl Clock,
+    to: &mut impl io::Write,
+    errors: &mut impl io::Write,
     len: usize,
     read: Read,
     all: &mut [u8],
@@ -140,6 +152,9 @@ fn obey(
 {
     match read {
         Read::Bytes { n } => pass(
+            clock,
+            to,
+            errors,
             len,
             all,
             names,
@@ -159,7 +174,7 @@ fn obey(
         ),
         Read::End => ended(len),
         Read::Failed { error } => {
-            complain(b"bench: standard input", error);
+            complain(clock, errors, b"bench: standard input", error);
             ended(len)
         }
     }
@@ -189,6 +204,10 @@ fn begun(
 
 // Reads and answers until the input ends. A proved loop has to end too: this one ends after 2^47 reads.
 pub fn run(
+    clock: &impl Clock,
+    from: &mut impl io::Read,
+    to: &mut impl io::Write,
+    errors: &mut impl io::Write,
     all: &mut [u8],
     names: &mut [u8],
     texts: &mut [usize],
@@ -213,8 +232,11 @@ pub fn run(
     );
     let mut turns = 0x8000_0000_0000u64;
     while 0 < turns {
-        let read = read_some(STDIN_FILENO, input);
+        let read = read_some(clock, from, input);
         let passed = obey(
+            clock,
+            to,
+            errors,
             len,
             read,
             all,

@@ -70,51 +70,52 @@ fn called(
 }
 
 // The sets that a take leaves.
-fn show_left(held: &[usize], call: Call)
+fn show_left(rt: &impl Print, held: &[usize], call: Call)
     requires { Counts held.now }
 {
     let Call::Take = call else {
         return;
     };
-    say(b"    sets left: ");
-    say_number(sets_left(held, PLAYER));
-    say(b"\n");
+    say(rt, b"    sets left: ");
+    say_number(rt, sets_left(held, PLAYER));
+    say(rt, b"\n");
 }
 
 // What is shown before a call: the line, or the buffer.
-fn show_before(call: Call, line: &[u8], buf: &[u8]) {
+fn show_before(rt: &impl Print, call: Call, line: &[u8], buf: &[u8]) {
     match call {
         Call::Remark => {}
         Call::Hear => {
-            say(b"  ");
-            say(line);
-            say(b"  ");
+            say(rt, b"  ");
+            say(rt, line);
+            say(rt, b"  ");
         }
         _ => {
-            say(b"  lent ");
-            say_number(buf.len());
-            say(b"\n    before ");
-            show(buf);
+            say(rt, b"  lent ");
+            say_number(rt, buf.len());
+            say(rt, b"\n    before ");
+            show(rt, buf);
         }
     }
 }
 
 // What is shown after it: the answer, and the buffer.
-fn show_after(call: Call, answer: Answer, buf: &[u8]) {
+fn show_after(rt: &impl Print, call: Call, answer: Answer, buf: &[u8]) {
     match call {
         Call::Remark => {}
-        Call::Hear => show_answer(answer),
+        Call::Hear => show_answer(rt, answer),
         _ => {
-            say(b"    ");
-            show_answer(answer);
-            say(b"    after  ");
-            show(buf);
+            say(rt, b"    ");
+            show_answer(rt, answer);
+            say(rt, b"    after  ");
+            show(rt, buf);
         }
     }
 }
 
 // A call, shown with its buffer before and after.
 fn shown(
+    rt: &impl Print,
     all: &mut [u8],
     names: &mut [u8],
     texts: &mut [usize],
@@ -133,16 +134,17 @@ fn shown(
     requires { Reached (memory_of all.old names.old texts.old lens.old plans.old filed.old name.old text.old answers.old values.old held.old) }
     ensures { Reached (memory_of all.new names.new texts.new lens.new plans.new filed.new name.new text.new answers.new values.new held.new) }
 {
-    show_before(call, line, buf);
+    show_before(rt, call, line, buf);
     let answer = called(
         all, names, texts, lens, plans, filed, name, text, answers, values, held, call, line, buf,
     );
-    show_after(call, answer, buf);
-    show_left(held, call);
+    show_after(rt, call, answer, buf);
+    show_left(rt, held, call);
 }
 
 // A call with so many marks for a buffer.
 pub fn lent(
+    rt: &impl Print,
     all: &mut [u8],
     names: &mut [u8],
     texts: &mut [usize],
@@ -164,6 +166,7 @@ pub fn lent(
 {
     let mut marks = [46u8; 128];
     shown(
+        rt,
         all,
         names,
         texts,

@@ -14,7 +14,7 @@ use crate::states::play;
 use bench::LAST_TABLET;
 use tablets::counts::LAST;
 
-fn main() {
+fn main(rt: HostRuntime) {
     let mut all = [0u8; 4096];
     let mut names = [0u8; 128];
     let mut texts = [0usize; 8];
@@ -28,6 +28,7 @@ fn main() {
     let mut held = [0usize; 302];
     held[LAST] = LAST_TABLET;
     play(
+        &rt,
         &mut all,
         &mut names,
         &mut texts,
@@ -41,9 +42,12 @@ fn main() {
         &mut held,
         b"#FI with no form stored, a reply of 33 bytes\ni00\ni01\ni30\ni31\ni32\ni33\ni34\ni35\n#A take in each state but Printing\n>Idle\n<FS\"SHELF\"\n>Collecting\n<ZN\n>Collecting, the form spoiled\n<FE\n<FS\"SHELF\"\n<Q160,24\n<ZT\n<V00,20,N,\"Pupil:\"\n<C0,3,N,+1,\"First:\"\n<A50,30,0,3,1,1,N,\"Name: \"V00\n<A050,70,0,3,1,1,N,C0\n<LO50,110,400,3\n<FE\n<FR\"SHELF\"\n>Open\n<?\n>Answering\n<Mia \"M\"\n>Answering, one answer given\n<09\n>Ready\n#Three takes of sets of 90 bytes, and one too many\n<P3\nt00\nt01\nt87\nt88\nt89\nt90\nt91\nt92\n>Idle after the last set\n<FS\"B\"\n<Q1,0\n<ZB\n<FE\n#FI with two forms stored, a reply of 26 bytes\ni00\ni01\ni23\ni24\ni25\ni26\ni27\ni28\n#A line read and written, 30 bytes in normal form\nw00\nw01\nw27\nw28\nw29\nw30\nw31\nw32\n#Lines while a set is printed\n<FR\"SHELF\"\n<?\n<Mia\n<1\n<P2\n<FI\n<?\n<P1\n<Q1,0\n<N\n>Idle\n",
     );
-    say(b"Records that no line reads as, written into 40 bytes\n");
-    false_values();
-    false_strings();
-    say(b"Records beside them that some line reads as\n");
-    true_records();
+    say(
+        &rt,
+        b"Records that no line reads as, written into 40 bytes\n",
+    );
+    false_values(&rt);
+    false_strings(&rt);
+    say(&rt, b"Records beside them that some line reads as\n");
+    true_records(&rt);
 }

@@ -6,16 +6,16 @@ use normal::write::write_line;
 use text::read::Span;
 
 // A record written, under its name.
-fn wrote(name: &[u8], s: &[u8], c: Command) {
+fn wrote(rt: &impl Print, name: &[u8], s: &[u8], c: Command) {
     let mut marks = [46u8; 40];
     let buf: &mut [u8] = &mut marks;
     let answer = write_line(s, c, buf);
-    say(b"  ");
-    say(name);
-    say(b": ");
-    show_answer(answer);
-    say(b"    after ");
-    show(buf);
+    say(rt, b"  ");
+    say(rt, name);
+    say(rt, b": ");
+    show_answer(rt, answer);
+    say(rt, b"    after ");
+    show(rt, buf);
 }
 
 // A text at a place across the label, with a string of a source.
@@ -82,51 +82,61 @@ fn star() -> Span {
 }
 
 // Numbers, letters and names out of range.
-pub fn false_values() {
+pub fn false_values(rt: &impl Print) {
     let s = b"A50,30,0,3,1,1,N,\"Mia \\\"M\\\"\"";
     let t = b"C0,3,N,+0,\"\"";
     let u = b"FK\"*\"";
     let name = star();
-    wrote(b"A with x 812", s, text_with(812, 18, 27, 7));
-    wrote(b"P with no set", b"", print(0, 1));
-    wrote(b"P with 65536 copies", b"", print(1, 65536));
-    wrote(b"Z with N", b"", direction(78));
-    wrote(b"Z with 340, T and 256 more", b"", direction(340));
-    wrote(b"LO with x 413 and width 400", b"", bar(413));
-    wrote(b"C with step +10000", t, counter(Step::Up { n: 10000 }));
-    wrote(b"C with step -0", t, counter(Step::Down { n: 0 }));
-    wrote(b"FS with the star", u, Command::Start { name });
+    wrote(rt, b"A with x 812", s, text_with(812, 18, 27, 7));
+    wrote(rt, b"P with no set", b"", print(0, 1));
+    wrote(rt, b"P with 65536 copies", b"", print(1, 65536));
+    wrote(rt, b"Z with N", b"", direction(78));
+    wrote(rt, b"Z with 340, T and 256 more", b"", direction(340));
+    wrote(rt, b"LO with x 413 and width 400", b"", bar(413));
+    wrote(rt, b"C with step +10000", t, counter(Step::Up { n: 10000 }));
+    wrote(rt, b"C with step -0", t, counter(Step::Down { n: 0 }));
+    wrote(rt, b"FS with the star", u, Command::Start { name });
 }
 
 // Strings that do not stand so in the source, a byte that no string has, and refusals.
-pub fn false_strings() {
+pub fn false_strings(rt: &impl Print) {
     let s = b"A50,30,0,3,1,1,N,\"Mia \\\"M\\\"\"";
     let t = b"A50,30,0,3,1,1,N,\"a\x07b\"";
-    wrote(b"A with a reversed string", s, text_with(50, 27, 18, 7));
-    wrote(b"A with a string at the end", s, text_with(50, 28, 28, 0));
-    wrote(b"A with a string far behind", s, text_with(50, 99, 99, 0));
-    wrote(b"A to an escaped quote", s, text_with(50, 18, 23, 5));
-    wrote(b"A with length 9 for 7", s, text_with(50, 18, 27, 9));
-    wrote(b"A with a byte 07H", t, text_with(50, 18, 21, 3));
-    wrote(b"that line as it is read", t, read_line(t));
+    wrote(rt, b"A with a reversed string", s, text_with(50, 27, 18, 7));
+    wrote(
+        rt,
+        b"A with a string at the end",
+        s,
+        text_with(50, 28, 28, 0),
+    );
+    wrote(
+        rt,
+        b"A with a string far behind",
+        s,
+        text_with(50, 99, 99, 0),
+    );
+    wrote(rt, b"A to an escaped quote", s, text_with(50, 18, 23, 5));
+    wrote(rt, b"A with length 9 for 7", s, text_with(50, 18, 27, 9));
+    wrote(rt, b"A with a byte 07H", t, text_with(50, 18, 21, 3));
+    wrote(rt, b"that line as it is read", t, read_line(t));
     let why = Refusal::NotNow;
-    wrote(b"a refusal", s, Command::Refused { why });
+    wrote(rt, b"a refusal", s, Command::Refused { why });
 }
 
 // Records beside those that some line reads as.
-pub fn true_records() {
+pub fn true_records(rt: &impl Print) {
     let s = b"A50,30,0,3,1,1,N,\"Mia \\\"M\\\"\"";
     let t = b"C0,3,N,+0,\"\"";
     let u = b"FK\"*\"";
     let name = star();
-    wrote(b"a line as it is read", s, read_line(s));
-    wrote(b"A with x 811", s, text_with(811, 18, 27, 7));
-    wrote(b"P with one set", b"", print(1, 1));
-    wrote(b"P with 65535 copies", b"", print(1, 65535));
-    wrote(b"Z with T", b"", direction(84));
-    wrote(b"LO with x 412 and width 400", b"", bar(412));
-    wrote(b"C with step +9999", t, counter(Step::Up { n: 9999 }));
-    wrote(b"C with step -1", t, counter(Step::Down { n: 1 }));
-    wrote(b"FK with the star", u, Command::Delete { name });
-    wrote(b"the empty line", b"", Command::Empty);
+    wrote(rt, b"a line as it is read", s, read_line(s));
+    wrote(rt, b"A with x 811", s, text_with(811, 18, 27, 7));
+    wrote(rt, b"P with one set", b"", print(1, 1));
+    wrote(rt, b"P with 65535 copies", b"", print(1, 65535));
+    wrote(rt, b"Z with T", b"", direction(84));
+    wrote(rt, b"LO with x 412 and width 400", b"", bar(412));
+    wrote(rt, b"C with step +9999", t, counter(Step::Up { n: 9999 }));
+    wrote(rt, b"C with step -1", t, counter(Step::Down { n: 1 }));
+    wrote(rt, b"FK with the star", u, Command::Delete { name });
+    wrote(rt, b"the empty line", b"", Command::Empty);
 }

@@ -1,52 +1,51 @@
 // Printing: bytes as a person reads them, and answers.
 use command::Answer;
 use command::refusals::number_of;
-use libc::STDOUT_FILENO;
 
 // A text as it is.
-pub fn say(text: &[u8]) {
-    io::write_all(STDOUT_FILENO, text);
+pub fn say(rt: &impl Print, text: &[u8]) {
+    let _ = rt.write_all(text);
 }
 
 // A number.
-pub fn say_number(n: usize) {
-    io::print_decimal(STDOUT_FILENO, n as u64);
+pub fn say_number(rt: &impl Print, n: usize) {
+    let _ = print!(rt; "{n}");
 }
 
 // A byte: as it is, or by its number in hex where it does not print.
-fn show_byte(b: u8) {
+fn show_byte(rt: &impl Print, b: u8) {
     if 31 < b {
         if b < 127 {
-            say(&[b]);
+            say(rt, &[b]);
             return;
         }
     }
-    say(b"<");
-    io::print_hex(STDOUT_FILENO, b as u64, 2);
-    say(b">");
+    say(rt, b"<");
+    let _ = print!(rt; "{b:02x}");
+    say(rt, b">");
 }
 
 // Bytes between brackets.
-pub fn show(bytes: &[u8]) {
-    say(b"[");
+pub fn show(rt: &impl Print, bytes: &[u8]) {
+    say(rt, b"[");
     for i in 0..bytes.len() {
-        show_byte(bytes[i]);
+        show_byte(rt, bytes[i]);
     }
-    say(b"]\n");
+    say(rt, b"]\n");
 }
 
 // An answer: the bytes that it reports, or its number.
-pub fn show_answer(answer: Answer) {
+pub fn show_answer(rt: &impl Print, answer: Answer) {
     match answer {
         Answer::Accepted { len } => {
-            say(b"accepted, ");
-            say_number(len);
-            say(b" bytes\n");
+            say(rt, b"accepted, ");
+            say_number(rt, len);
+            say(rt, b" bytes\n");
         }
         Answer::Refused { why } => {
-            say(b"refused by ");
-            say_number(number_of(why));
-            say(b"\n");
+            say(rt, b"refused by ");
+            say_number(rt, number_of(why));
+            say(rt, b"\n");
         }
     }
 }

@@ -63,23 +63,24 @@ fn room_of(line: &[u8]) -> usize
 }
 
 // A remark, or the state that a take comes in.
-fn head(line: &[u8]) {
+fn head(rt: &impl Print, line: &[u8]) {
     if line.len() == 0 {
         return;
     }
     if line[0] == b'#' {
-        say(&line[1..]);
-        say(b"\n");
+        say(rt, &line[1..]);
+        say(rt, b"\n");
     }
     if line[0] == b'>' {
-        say(b"  a take in ");
-        say(&line[1..]);
-        say(b"\n");
+        say(rt, b"  a take in ");
+        say(rt, &line[1..]);
+        say(rt, b"\n");
     }
 }
 
 // A line of the script.
 fn act(
+    rt: &impl Print,
     all: &mut [u8],
     names: &mut [u8],
     texts: &mut [usize],
@@ -96,8 +97,9 @@ fn act(
     requires { Reached (memory_of all.old names.old texts.old lens.old plans.old filed.old name.old text.old answers.old values.old held.old) }
     ensures { Reached (memory_of all.new names.new texts.new lens.new plans.new filed.new name.new text.new answers.new values.new held.new) }
 {
-    head(line);
+    head(rt, line);
     lent(
+        rt,
         all,
         names,
         texts,
@@ -117,6 +119,7 @@ fn act(
 
 // A script, line by line.
 pub fn play(
+    rt: &impl Print,
     all: &mut [u8],
     names: &mut [u8],
     texts: &mut [usize],
@@ -137,6 +140,7 @@ pub fn play(
     while at < script.len() {
         let end = line_end(script, at);
         act(
+            rt,
             all,
             names,
             texts,

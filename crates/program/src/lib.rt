@@ -1,4 +1,4 @@
-// Reading and writing: the loops around crate streams, which calls C.
+// Reading and writing: the loops around crate streams, which calls the system.
 #![tactic(auto)]
 
 ghost use Rattle.std.specs.Prelude.{◌+◌, ◌*◌, ◌^◌, ◌<◌, ◌≤◌, ◌≡◌, false, length};
@@ -10,20 +10,27 @@ ghost use Rattle.flow.specs.Fill.{desk_of, At};
 ghost use Rattle.program.specs.Pass.{StandsAt, Passes, Obeys, Starting};
 
 use flow::fill::{Reach, Run, fill};
-use libc::{STDERR_FILENO, STDIN_FILENO, STDOUT_FILENO};
+use std::io;
+use std::rt::Clock;
 use streams::{Read, Written, complain, read_some, write_whole};
 
 // Writes out what waits for each stream, and answers whether standard output took it all. Where it did not, a last line on
 // standard error says so. A standard error that fails does not stop the labels.
-fn write_both(out: &[u8], err: &[u8]) -> bool
+fn write_both(
+    clock: &impl Clock,
+    to: &mut impl io::Write,
+    errors: &mut impl io::Write,
+    out: &[u8],
+    err: &[u8],
+) -> bool
     ensures { result ≡ false → 0 < length out.now }
 {
-    let written = write_whole(STDOUT_FILENO, out);
-    write_whole(STDERR_FILENO, err);
+    let written = write_whole(clock, to, out);
+    write_whole(clock, errors, err);
     match written {
         Written::Whole => true,
         Written::Failed { error } => {
-            complain(b"bench: standard output", error);
+            complain(clock, errors, b"bench: standard output", error);
             false
         }
     }
@@ -40,6 +47,9 @@ pub struct Passed {
 
 // Obeys a whole piece of input, and empties both buffers into their streams whenever one of them is full, and at the end.
 fn pass(
+    clock: &impl Clock,
+    to: &mut impl io::Write,
+    errors: &mut impl io::Write,
     run: Run,
     all: &mut [u8],
     names: &mut [u8],
@@ -92,7 +102,7 @@ fn pass(
         next = reach.next;
         let a = reach.out;
         let b = reach.err;
-        if !write_both(&out[..a], &err[..b]) {
+        if !write_both(clock, to, errors, &out[..a], &err[..b]) {
             return Passed {
                 run,
                 next,
@@ -123,6 +133,9 @@ fn ended(run: Run) -> Passed
 // What a read came to, and the buffer that it read into: its bytes are passed on. Where the input has ended the run ends, and where it
 // fails too, which a line says.
 fn obey(
+    clock: &impl Clock,
+    to: &mut impl io::Write,
+    errors: &mut impl io::Write,
     run: Run,
     read: Read,
     all: &mut [u8],
@@ -148,6 +161,9 @@ fn obey(
 {
     match read {
         Read::Bytes { n } => pass(
+            clock,
+            to,
+            errors,
             run,
             all,
             names,
@@ -167,7 +183,7 @@ fn obey(
         ),
         Read::End => ended(run),
         Read::Failed { error } => {
-            complain(b"bench: standard input", error);
+            complain(clock, errors, b"bench: standard input", error);
             ended(run)
         }
     }
@@ -201,6 +217,10 @@ fn begun(
 
 // Reads and obeys until the input ends. A proved loop has to end too: this one ends after 2^47 reads.
 pub fn run(
+    clock: &impl Clock,
+    from: &mut impl io::Read,
+    to: &mut impl io::Write,
+    errors: &mut impl io::Write,
     all: &mut [u8],
     names: &mut [u8],
     texts: &mut [usize],
@@ -225,8 +245,11 @@ pub fn run(
     );
     let mut turns = 0x8000_0000_0000u64;
     while 0 < turns {
-        let read = read_some(STDIN_FILENO, input);
+        let read = read_some(clock, from, input);
         let passed = obey(
+            clock,
+            to,
+            errors,
             run,
             read,
             all,

@@ -25,12 +25,8 @@ use Rattle.command.specs.Numbered.{first, number_of}
 pub digits_few : (n : ℕ) → n < 2 ^ 64 → length (decimal n) ≤ 20
 digits_few n h = decimal_is_within 20 n (omega arith) (omega arith)
 
--- the refusals that give one number: all but the ninth
-abbrev others : List ℕ
-others = 0 ∷ 1 ∷ 2 ∷ 3 ∷ 4 ∷ 5 ∷ 6 ∷ 7 ∷ 9 ∷ 10 ∷ 11 ∷ 12 ∷ 13 ∷ 14 ∷ 15 ∷ 16 ∷ 17 ∷ 18 ∷ []
-
--- it is their own
-figures_one : (why : Refusal) → OneOf others (tag_of Tag.the_type why) → R.figures (refusal_of why) ≡ number_of (refusal_of why) ∷ []
+-- the refusals that give one number, which is their own: all but the ninth
+figures_one : (why : Refusal) → ((line : ℕ) → why ≡ W.Unsound line → ⊥) → R.figures (refusal_of why) ≡ number_of (refusal_of why) ∷ []
 unfolding R.figures refusal_of number_of first
 figures_one W.TooLong h = refl
 figures_one W.ControlByte h = refl
@@ -40,7 +36,7 @@ figures_one W.Malformed h = refl
 figures_one W.OutOfRange h = refl
 figures_one W.Overfull h = refl
 figures_one W.IsSpoiled h = refl
-figures_one (W.Unsound line) h = absurd (miss others 8 tt h)
+figures_one (W.Unsound line) h = absurd (h line refl)
 figures_one W.NameTaken h = refl
 figures_one W.NoRoom h = refl
 figures_one W.Absent h = refl
@@ -53,7 +49,7 @@ figures_one W.NoTablet h = refl
 figures_one W.HeldOpen h = refl
 
 -- the line of a refusal that gives one number
-pub report_one : (old : List ℕ) (at k : ℕ) (mid : List ℕ) (a n : ℕ) (new : List ℕ) (r : ℕ) (why : Refusal) → OneOf others (tag_of Tag.the_type why)
+pub report_one : (old : List ℕ) (at k : ℕ) (mid : List ℕ) (a n : ℕ) (new : List ℕ) (r : ℕ) (why : Refusal) → ((line : ℕ) → why ≡ W.Unsound line → ⊥)
     → n ≡ number_of (refusal_of why) → Writes old at (decimal k ++ (32 ∷ [])) mid a → Writes mid a (decimal n ++ (10 ∷ [])) new r
     → Writes old at (err_of k (R.refused (refusal_of why))) new r
 unfolding err_of spaced

@@ -21,7 +21,6 @@ use Rattle.command.specs.Answer.{Reports, Meets}
 use Rattle.command.specs.declared.Refusal.{Refusal}
 use Rattle.command.specs.declared.Refusal.TheVariants as W
 use Rattle.command.specs.declared.Command.{Command}
-use Rattle.command.specs.declared.Answer.{Answer}
 use Rattle.command.specs.declared.Answer.TheVariants as A
 use Rattle.normal.specs.Normal.{record_held, readable, reading_text, write_reading, write_of, WritesLine}
 

@@ -19,7 +19,7 @@ use Rattle.paper.proofs.Law.{if_true, if_false}
 use Rattle.paper.proofs.Store.{same_sym, without_absent}
 use Rattle.paper.proofs.Test.{either}
 use Rattle.paper.proofs.Text.{same_eq}
-use Rattle.session.specs.Memory.{Session, drafts, drafting, place_of, holds, holding, packed_session, number_of}
+use Rattle.session.specs.Memory.{drafts, drafting, place_of, holds, holding, packed_session, number_of}
 use Rattle.session.specs.declared.state.Mode.{Mode}
 use Rattle.session.specs.declared.state.Mode.TheVariants as M
 use Rattle.session.specs.declared.state.Held.{Held}

@@ -132,7 +132,8 @@ def main():
             new = ''.join(spans(p, turn) if i % 2 else clauses(p, turn, fields, meet) for i, p in enumerate(pieces))
         else:
             new = clauses(old, turn, fields, meet)
-        new = operators(new, path)
+        if steps[0] != 'streams':  # it has the library's choice
+            new = operators(new, path)
         if new != old:
             open(path, 'w', encoding='utf8').write(new)
 

@@ -1,5 +1,5 @@
 -- From the tests of the code, which are on the bits of a signed number, to the definitions, which are on the number. Assumes nothing.
-use Rattle.std.proofs.Common.{◌≡◌, refl, sym, ◌∙◌, ap, subst, ℕ, ◌<◌, ◌≤◌, List, ℤ, pos, negsuc, ltb, Bool, true, false, when◌then◌else◌, SFits, to_z, of_z, to_z-of_z, w32, w64}
+use Rattle.std.proofs.Common.{◌≡◌, refl, sym, ◌∙◌, ap, subst, ℕ, ◌<◌, ◌≤◌, List, ℤ, pos, negsuc, ltb, Bool, true, false, if◌then◌else◌, SFits, to_z, of_z, to_z-of_z, w32, w64}
 use Rattle.std.proofs.lemmas.Bool.{lt-ltb, le-ltb, ltb-true, ne_eqb}
 use Rattle.std.specs.Counts.{IsPrefixLen}
 use mir.Syntax.{Width}
@@ -49,7 +49,7 @@ pub tries : {h : Tried} (got error : ℤ) (n length : ℕ) → h ≡ tried got e
 unfolding tried
 tries got error n length e fits = subst (Tries length) (sym e) (go (ltb 0 n) (is 0 got) (passing error) refl refl)
   where
-    go : (a b e : Bool) → ltb 0 n ≡ a → passing error ≡ e → Tries length (when a then Moved n else when b then Nothing else when e then Again else Failed error)
+    go : (a b e : Bool) → ltb 0 n ≡ a → passing error ≡ e → Tries length (if a then Moved n else if b then Nothing else if e then Again else Failed error)
     go true b e some _ = (ltb-true 0 n some, fits)
     go false true e _ _ = tt
     go false false true _ _ = tt

@@ -1,5 +1,5 @@
 -- What a call of `read` or `write` comes to, and what may become of a whole read or write. Assumes nothing.
-use Rattle.std.specs.Prelude.{ℕ, ◌≤◌, ◌<◌, ◌≡◌, Bool, false, ◌||◌, when◌then◌else◌, List, eqb, ltb, ℤ, pos, negsuc}
+use Rattle.std.specs.Prelude.{ℕ, ◌≤◌, ◌<◌, ◌≡◌, Bool, false, ◌||◌, if◌then◌else◌, List, eqb, ltb, ℤ, pos, negsuc}
 use Rattle.std.specs.Counts.{IsPrefixLen}
 use Rattle.streams.specs.declared.Read.{Read}
 use Rattle.streams.specs.declared.Read.TheVariants as R
@@ -24,7 +24,7 @@ passing error = is 4 error || is 11 error
 
 -- what a call came to that answered `got`, moved n bytes and left this error
 unfoldable pub tried : ℤ → ℤ → ℕ → Tried
-tried got error n = when ltb 0 n then Moved n else when is 0 got then Nothing else when passing error then Again else Failed error
+tried got error n = if ltb 0 n then Moved n else if is 0 got then Nothing else if passing error then Again else Failed error
 
 -- what one call on a buffer of this length may come to
 abbrev pub Tries : ℕ → Tried → Type 0

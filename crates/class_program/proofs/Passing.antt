@@ -173,9 +173,9 @@ module _ {d₀ : Desk} {input₀ reply₀ out₀ : List ℕ} {d : Desk} {input r
   reading_roomy = record { reply_room = omega (arith, t.reply_size, t.roomy.reply_room); out_room = omega (arith, t.out_size, t.roomy.out_room) }
 
   -- a read more
-  pub reading_turns : (e : Desk) (new newReply newOut : List ℕ) (read : Read) (next : ℕ) (going : Bool) → Obeys d read new e next going → Sized d e
-      → length new ≡ length input → length newReply ≡ length reply → length newOut ≡ length out → Reading d₀ input₀ reply₀ out₀ e new newReply newOut
-  reading_turns e new newReply newOut read next going o sizes i j k =
+  pub reading_turns : (e : Desk) (new newReply new_out : List ℕ) (read : Read) (next : ℕ) (going : Bool) → Obeys d read new e next going → Sized d e
+      → length new ≡ length input → length newReply ≡ length reply → length new_out ≡ length out → Reading d₀ input₀ reply₀ out₀ e new newReply new_out
+  reading_turns e new newReply new_out read next going o sizes i j k =
       record {
         stands = o.passes.stands;
         roomy = t.roomy;

@@ -130,15 +130,15 @@ module _ {input : List ℕ} {p : Place} {out₀ : List ℕ} (t : Stands p.desk) 
 
   -- the next line is answered
   abbrev answering_on : ℕ → List ℕ → Memory → ℕ → Place
-  answering_on end new next outEnd = record { desk = record { memory = next; waiting = new; len = 0 }; next = end + 1; out = outEnd }
+  answering_on end new next out_end = record { desk = record { memory = next; waiting = new; len = 0 }; next = end + 1; out = out_end }
 
   module _ (end : ℕ) (before : end < length input) (rest : List ℕ) (shown : Bool) (new : List ℕ) (n : ℕ)
       (lies : Line input p.next end rest)
       (clear : shown ≡ true → (p.desk.len ≡ 0) × (every is_shown rest ≡ true))
       (g : Gathered p.desk.waiting p.desk.len rest shown new n)
-      (next : Memory) (out : List ℕ) (outEnd : ℕ)
-      (tells : Tells p.desk.memory (λ c. line_reply c (line_by shown rest (take n new))) out₀ p.out next out outEnd) where
-    puts_answers : (s : Standing) → At p.desk s → Puts s input p out₀ (answering_on end new next outEnd) out
+      (next : Memory) (out : List ℕ) (out_end : ℕ)
+      (tells : Tells p.desk.memory (λ c. line_reply c (line_by shown rest (take n new))) out₀ p.out next out out_end) where
+    puts_answers : (s : Standing) → At p.desk s → Puts s input p out₀ (answering_on end new next out_end) out
     unfolding answered answered_says
     puts_answers s a =
         let w : List ℕ = s.wait ++ kept rest in
@@ -162,7 +162,7 @@ module _ {input : List ℕ} {p : Place} {out₀ : List ℕ} (t : Stands p.desk) 
           outs = rw same at (tells.puts k);
         }
 
-    steps_answers : Steps input p out₀ (answering_on end new next outEnd) false out
+    steps_answers : Steps input p out₀ (answering_on end new next out_end) false out
     steps_answers =
         record {
           goes = goes_by t puts_answers (omega (arith, lies.before)) (omega (arith, before));
@@ -174,10 +174,10 @@ module _ {input : List ℕ} {p : Place} {out₀ : List ℕ} (t : Stands p.desk) 
   pub steps_answered : (end : ℕ) → Ending input p.next end → end < length input → (shown : Bool) → Clear input p.next p.desk.len end shown → (new : List ℕ) (n : ℕ)
       → Gathered p.desk.waiting p.desk.len (take (end - p.next) (drop p.next input)) shown new n
       → (said : List ℕ) → said ≡ line_by shown (take (end - p.next) (drop p.next input)) (take n new)
-      → (next : Memory) (out : List ℕ) (outEnd : ℕ) → Tells p.desk.memory (λ c. line_reply c said) out₀ p.out next out outEnd
-      → Steps input p out₀ (answering_on end new next outEnd) false out
-  steps_answered end ending before shown clear new n g said is next out outEnd tells =
-      steps_answers end before _ shown new n (part_ends input p.next end ending before) clear g next out outEnd (rw is at tells)
+      → (next : Memory) (out : List ℕ) (out_end : ℕ) → Tells p.desk.memory (λ c. line_reply c said) out₀ p.out next out out_end
+      → Steps input p out₀ (answering_on end new next out_end) false out
+  steps_answered end ending before shown clear new n g said is next out out_end tells =
+      steps_answers end before _ shown new n (part_ends input p.next end ending before) clear g next out out_end (rw is at tells)
 
 -- from turn to turn: how far the run came, and that it moved on or is where it began
 pub record Filling (input : List ℕ) (p : Place) (out₀ : List ℕ) (q : Place) (out : List ℕ) : Type 0 where

@@ -235,21 +235,21 @@ module _ {input : List ℕ} {p : Place} {out₀ err₀ : List ℕ} (t : Stands p
 
     -- the next line is heard
     abbrev hearing_on : ℕ → List ℕ → Memory → ℕ → ℕ → ℕ → Place
-    hearing_on end new next outEnd errEnd left =
+    hearing_on end new next out_end err_end left =
         record {
           desk = record { memory = next; waiting = new; run = record { len = 0; lines = p.desk.run.lines + 1; left = left } };
           next = end + 1;
-          out = outEnd;
-          err = errEnd;
+          out = out_end;
+          err = err_end;
         }
 
     module _ (end : ℕ) (before : end < length input) (rest : List ℕ) (new : List ℕ) (n : ℕ)
         (lies : Line input p.next end rest)
         (g : Gathered p.desk.waiting p.desk.run.len rest new n)
-        (next : Memory) (out : List ℕ) (outEnd : ℕ) (err : List ℕ) (errEnd : ℕ)
-        (hears : HearsAt p.desk.memory (line_by p.desk.run.len rest (take n new)) (p.desk.run.lines + 1) out₀ p.out err₀ p.err next out outEnd err errEnd)
+        (next : Memory) (out : List ℕ) (out_end : ℕ) (err : List ℕ) (err_end : ℕ)
+        (hears : HearsAt p.desk.memory (line_by p.desk.run.len rest (take n new)) (p.desk.run.lines + 1) out₀ p.out err₀ p.err next out out_end err err_end)
         (left : ℕ) (tells : SetsLeft next.held 0 left) where
-      puts_hears : (s : Standing) → At p.desk s → Puts s input p out₀ err₀ (hearing_on end new next outEnd errEnd left) out err
+      puts_hears : (s : Standing) → At p.desk s → Puts s input p out₀ err₀ (hearing_on end new next out_end err_end left) out err
       unfolding heard heard_says P.hear
       puts_hears s a =
           let said : List ℕ = line_by p.desk.run.len rest (take n new) in
@@ -279,7 +279,7 @@ module _ {input : List ℕ} {p : Place} {out₀ err₀ : List ℕ} (t : Stands p
             errs = rw (same, counts) at (hears.errs s.bench a.lone);
           }
 
-      steps_hears : Steps input p out₀ err₀ (hearing_on end new next outEnd errEnd left) false out err
+      steps_hears : Steps input p out₀ err₀ (hearing_on end new next out_end err_end left) false out err
       unfolding weight
       steps_hears =
           let few : left ≤ 65535 = due_at (puts_hears t.paper t.at).leads.at in
@@ -293,11 +293,11 @@ module _ {input : List ℕ} {p : Place} {out₀ err₀ : List ℕ} (t : Stands p
     pub steps_heard : (end : ℕ) → Ending input p.next end → end < length input → (new : List ℕ) (n : ℕ)
         → Gathered p.desk.waiting p.desk.run.len (take (end - p.next) (drop p.next input)) new n
         → (said : List ℕ) → said ≡ line_by p.desk.run.len (take (end - p.next) (drop p.next input)) (take n new)
-        → (next : Memory) (out : List ℕ) (outEnd : ℕ) (err : List ℕ) (errEnd : ℕ)
-        → HearsAt p.desk.memory said (p.desk.run.lines + 1) out₀ p.out err₀ p.err next out outEnd err errEnd
-        → (left : ℕ) → SetsLeft next.held 0 left → Steps input p out₀ err₀ (hearing_on end new next outEnd errEnd left) false out err
-    steps_heard end ending before new n g said is next out outEnd err errEnd hears left tells =
-        steps_hears end before _ new n (part_ends input p.next end ending before) g next out outEnd err errEnd (rw is at hears) left tells
+        → (next : Memory) (out : List ℕ) (out_end : ℕ) (err : List ℕ) (err_end : ℕ)
+        → HearsAt p.desk.memory said (p.desk.run.lines + 1) out₀ p.out err₀ p.err next out out_end err err_end
+        → (left : ℕ) → SetsLeft next.held 0 left → Steps input p out₀ err₀ (hearing_on end new next out_end err_end left) false out err
+    steps_heard end ending before new n g said is next out out_end err err_end hears left tells =
+        steps_hears end before _ new n (part_ends input p.next end ending before) g next out out_end err err_end (rw is at hears) left tells
 
 -- from turn to turn: how far the run came, and that it moved on or is where it began
 pub record Filling (input : List ℕ) (p : Place) (out₀ err₀ : List ℕ) (q : Place) (out err : List ℕ) : Type 0 where

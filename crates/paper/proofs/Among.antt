@@ -174,7 +174,7 @@ sets_at ls given c i (suc n) (suc k) l = let on : i + suc k ≡ suc i + k = omeg
 
 -- what comes of an order that a diary does: every call of it was accepted, the sets are all there, and each is well formed, has
 -- room in 10,291 bytes and is within the label's limits
-pub record Comes-out (width : ℕ) (ls : List FormLine) (given : List (List ℕ)) (n c : ℕ) {st : Session} {es : List Entry} (d : Does width st (needs ls given n c) es) : Type 0 where
+pub record ComesOut (width : ℕ) (ls : List FormLine) (given : List (List ℕ)) (n c : ℕ) {st : Session} {es : List Entry} (d : Does width st (needs ls given n c) es) : Type 0 where
   pub all_accepted : AllAccepted d
   pub sets : sets_in es ≡ sets_from ls given c 0 n
   pub each : (i : ℕ) → i < n → get_or (sets_in es) i [] ≡ set_of ls given c i
@@ -190,7 +190,7 @@ module _ (width t room : ℕ) (c : Class) (s name : List ℕ) (ls : List FormLin
   opens = recalls width room c t s name ls l o.free o.stored reads
 
   -- DEMAND 3 among others: whatever is sent by whom, if the tablet's own part of it does the order, that comes out
-  pub order_among : (qs : List Request) (d : Does width (opened_with ls (asked ls)) (needs ls given n copies) (diary width t recalled_class qs)) → Comes-out width ls given n copies d
+  pub order_among : (qs : List Request) (d : Does width (opened_with ls (asked ls)) (needs ls given n copies) (diary width t recalled_class qs)) → ComesOut width ls given n copies d
   order_among qs d =
       let desk' = desk_sane width c t sane l in
       let done' = fulfils d _ (serves_order width (desk c t) name ls given n copies narrow desk' o) (rw opens.1 at (apart width t recalled_class qs)) in

@@ -20,7 +20,7 @@ use Rattle.paper.proofs.Silent.{not_own, line_elsewhere}
 use Rattle.paper.proofs.Freeing.{behind_finish, first_leaves, second_leaves, third_leaves}
 
 -- what holds of a tablet whatever others send, and of it behind each take
-module _ (width t : ℕ) (P : Tablet → Type 0) (taken-stays : (room : ℕ) (c : Class) → P (c.tablet t) → P (tablet_of (take_set room (desk c t)).next.session (c.tablet t).form)) where
+module _ (width t : ℕ) (P : Tablet → Type 0) (taken_stays : (room : ℕ) (c : Class) → P (c.tablet t) → P (tablet_of (take_set room (desk c t)).next.session (c.tablet t).form)) where
   take_stays : (room : ℕ) (c : Class) → P (c.tablet t) → P ((take_next room c).next.tablet t)
   unfolding take_next serve reply denied renamed
   take_stays room c p = by_turn (turn c)
@@ -29,7 +29,7 @@ module _ (width t : ℕ) (P : Tablet → Type 0) (taken-stays : (room : ℕ) (c 
       by_turn none = p
       by_turn (some u) =
           either (eqb t u)
-          (λ y. rw (← eqb-true t u y) (rw (seat_own t (tablet_of (take_set room (desk c t)).next.session (c.tablet t).form) c.tablet t (eq-eqb t t refl)) (taken-stays room c p)))
+          (λ y. rw (← eqb-true t u y) (rw (seat_own t (tablet_of (take_set room (desk c t)).next.session (c.tablet t).form) c.tablet t (eq-eqb t t refl)) (taken_stays room c p)))
           (λ n. rw (seat_other u (tablet_of (take_set room (desk c u)).next.session (c.tablet u).form) c.tablet t n) p)
 
   calls_stay : (c : Class) (qs : List Request) → silent t qs ≡ true → P (c.tablet t) → P ((class_after width c qs).tablet t)
@@ -81,7 +81,7 @@ unfolding take_set taken outcome desk at_idle tablet_of holds_form open_lines is
 third_stays room c t e = ap (λ (x : Tablet). tablet_of (take_set room (record { forms = c.forms; session = x.session })).next.session x.form) e
 
 -- FREED AMONG OTHERS
-module _ (width : ℕ) (c : Class) (t : ℕ) (l : t < 30) (w : List ℕ) (a b d : ℕ) (xs ys zs : List Request) (silent-first : silent t xs ≡ true) (silent-second : silent t ys ≡ true) (silent-third : silent t zs ≡ true) where
+module _ (width : ℕ) (c : Class) (t : ℕ) (l : t < 30) (w : List ℕ) (a b d : ℕ) (xs ys zs : List Request) (silent_first : silent t xs ≡ true) (silent_second : silent t ys ≡ true) (silent_third : silent t zs ≡ true) where
   abbrev one : Class
   one = class_after width (hear_from width a c t (broken w)).next xs
 
@@ -92,14 +92,14 @@ module _ (width : ℕ) (c : Class) (t : ℕ) (l : t < 30) (w : List ℕ) (a b d 
   unfolding tablet_of desk after_refusal
   first =
       let s = (first_leaves width c t l a w).session in
-      calls_stay width t (λ x. x.session ≡ after_refusal x.session) (λ room d. take_leaves after_refusal refl (λ ls given n k i. refl) room d.forms (d.tablet t).session) _ xs silent-first
+      calls_stay width t (λ x. x.session ≡ after_refusal x.session) (λ room d. take_leaves after_refusal refl (λ ls given n k i. refl) room d.forms (d.tablet t).session) _ xs silent_first
       (s ∙ first_again (c.tablet t).session ∙ ap after_refusal (sym s))
 
   second : (two.tablet t).session ≡ behind_finish (two.tablet t).session
   unfolding tablet_of desk behind_finish
   second =
       let s = (second_leaves width one t l b (one.tablet t).session first).session in
-      calls_stay width t (λ x. x.session ≡ behind_finish x.session) (λ room d. take_leaves behind_finish refl (λ ls given n k i. refl) room d.forms (d.tablet t).session) _ ys silent-second
+      calls_stay width t (λ x. x.session ≡ behind_finish x.session) (λ room d. take_leaves behind_finish refl (λ ls given n k i. refl) room d.forms (d.tablet t).session) _ ys silent_second
       (s ∙ second_again (one.tablet t).session ∙ ap behind_finish (sym s))
 
   third : (hear_from width d two t (bytes "N")).next.tablet t ≡ at_idle
@@ -110,4 +110,4 @@ module _ (width : ℕ) (c : Class) (t : ℕ) (l : t < 30) (w : List ℕ) (a b d 
   unfolding three_among class_after reply_to
   frees_among =
       ap (λ (e : Class). e.tablet t) (calls_append width _ xs _ ∙ calls_append width _ ys _)
-      ∙ calls_stay width t (λ x. x ≡ at_idle) (λ room e. third_stays room e t) _ zs silent-third third
+      ∙ calls_stay width t (λ x. x ≡ at_idle) (λ room e. third_stays room e t) _ zs silent_third third

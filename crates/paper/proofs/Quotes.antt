@@ -347,7 +347,7 @@ text_lone : Line text_line
 unfolding text_line
 text_lone = after setting_passes λ s. closes _ content_finds
 
--- `LO`, `Le` and `LW`
+-- `LO`, `LE` and `LW`
 bar_lone : (pen : Pen) → Line (bar_line pen)
 unfolding bar_line
 bar_lone pen =

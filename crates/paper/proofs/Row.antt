@@ -49,7 +49,7 @@ put_last : (width : ℕ) (s : Setting) (c : Content) → width ≤ 10000 → Hel
 unfolding text_line
 put_last width s c w h k = onward _ (setting_head width s w h) (closing _ (content_last c k))
 
--- `LO`, `Le` and `LW`: four numbers
+-- `LO`, `LE` and `LW`: four numbers
 bar_last : (width : ℕ) (pen : Pen) (x y w t : ℕ) → width ≤ 10000 → Held (draw_ranges width (bar pen x y w t))
     → Last (bar_line pen) (keep (draw (bar pen x y w t))) (commas (decimal x ∷ decimal y ∷ decimal w ∷ decimal t ∷ [])) 23
 unfolding bar_line commas draw_ranges

@@ -44,12 +44,12 @@ none_left width st [] n o = refl
 none_left width st (e ∷ es) n o = clash o.0 n
 
 -- a line in Printing is answered by what it reads as, and the sets go on or are given up
-data Goes_on (st : Session) : Session → Type 0 where
-  goes_on : Goes_on st st
-  gives_up : Goes_on st idle
+data GoesOn (st : Session) : Session → Type 0 where
+  goes_on : GoesOn st st
+  gives_up : GoesOn st idle
 
 module _ (ls : List FormLine) (given : List (List ℕ)) (n c : ℕ) where
-  printing_line : (i : ℕ) (g : Reading) → Goes_on (printing ls given n c i) (obeyed [] (printing ls given n c i) (in_printing [] (printing ls given n c i)) g).next.session
+  printing_line : (i : ℕ) (g : Reading) → GoesOn (printing ls given n c i) (obeyed [] (printing ls given n c i) (in_printing [] (printing ls given n c i)) g).next.session
   unfolding obeyed in_printing done refuse outcome after_refusal
   printing_line i (command empty) = goes_on
   printing_line i (command new) = gives_up
@@ -166,7 +166,7 @@ line_begins width (answering ls given) s es o b = b
 line_begins width (ready ls given) s es o b = b
 line_begins width (printing ls given n c i) s es o b = by_way _ (printing_line ls given n c i (read width s)) o b
   where
-    by_way : (next : Session) → Goes_on (printing ls given n c i) next → Own width next es → Begins (sets_in es) (ordered width next (lines_in es)) → Begins (sets_in es) (sets_due (printing ls given n c i))
+    by_way : (next : Session) → GoesOn (printing ls given n c i) next → Own width next es → Begins (sets_in es) (ordered width next (lines_in es)) → Begins (sets_in es) (sets_due (printing ls given n c i))
     by_way next goes_on o b = rw (ordered_due width next (lines_in es) refl) at b
     by_way next gives_up o b = begins_none _ (none_left width idle es refl o)
 

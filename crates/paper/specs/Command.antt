@@ -24,7 +24,7 @@ pub record Setting : Type 0 where
   pub v : ℕ
   pub m : ℕ
 
--- what an `L` line does to the dots under it: `LO` sets them, `Le` flips them and `LW` clears them
+-- what an `L` line does to the dots under it: `LO` sets them, `LE` flips them and `LW` clears them
 pub data Pen : Type 0 where
   black : Pen
   flip : Pen

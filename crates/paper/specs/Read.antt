@@ -80,7 +80,7 @@ text_line = do
   c ← content
   ended (keep (draw (put s c)))
 
--- `LO`, `Le`, `LW`: a place, a width and a height
+-- `LO`, `LE`, `LW`: a place, a width and a height
 unfoldable pub bar_line : Pen → Reader Command
 bar_line pen = do
   x ← part number

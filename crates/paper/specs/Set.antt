@@ -120,7 +120,7 @@ is_text (text s) = true
 is_text (shown v) = false
 is_text (joined s v) = false
 
--- `A` with a string only, `LO`, `Le`, `LW` or `X`
+-- `A` with a string only, `LO`, `LE`, `LW` or `X`
 unfoldable pub is_plain : Draw → Bool
 is_plain (size p₁ p₂) = false
 is_plain (direction d) = false

@@ -270,9 +270,9 @@ module _ {m : Memory} {input₀ out₀ err₀ : List ℕ} {d : Desk} {input out 
   reading_room = (omega (arith, t.out_size, t.starts.out_room), omega (arith, t.err_size, t.starts.err_room))
 
   -- a read more
-  pub reading_turns : (e : Desk) (new newOut newErr : List ℕ) (read : Read) (next : ℕ) (going : Bool) → Obeys d read new e next going → Sized d.memory e.memory
-      → length new ≡ length input → length newOut ≡ length out → length newErr ≡ length err → Reading m input₀ out₀ err₀ e new newOut newErr (turns - 1)
-  reading_turns e new newOut newErr read next going o sizes i j k =
+  pub reading_turns : (e : Desk) (new new_out new_err : List ℕ) (read : Read) (next : ℕ) (going : Bool) → Obeys d read new e next going → Sized d.memory e.memory
+      → length new ≡ length input → length new_out ≡ length out → length new_err ≡ length err → Reading m input₀ out₀ err₀ e new new_out new_err (turns - 1)
+  reading_turns e new new_out new_err read next going o sizes i j k =
       record {
         stands = o.passes.stands;
         few = omega (arith, t.few, t.starts.few, o.passes.few, t.input_size, length-take (bytes_of read) new);

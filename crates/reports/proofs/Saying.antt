@@ -126,9 +126,9 @@ module _ (self : Memory) (out : List ℕ) (at : ℕ) (next : Memory) (new : List
     hears_out : (b : Bench) → Lone self b → Writes out at (out_of (hear width enough b s).answer) back (at + n)
     hears_out b l = rw (hears_as self b l s).answer at (adds (λ room. (hear_from width room l.reached.class 0 s).answer) (t.meets l.reached))
 
-    pub hears_at : (k : ℕ) (err : List ℕ) (place : ℕ) (newErr : List ℕ) (errEnd : ℕ) → ((p : R.Answer) → Reports answer p → Writes err place (err_of k p) newErr errEnd)
-        → HearsAt self s k out at err place next back (at + n) newErr errEnd
-    hears_at k err place newErr errEnd g =
+    pub hears_at : (k : ℕ) (err : List ℕ) (place : ℕ) (new_err : List ℕ) (err_end : ℕ) → ((p : R.Answer) → Reports answer p → Writes err place (err_of k p) new_err err_end)
+        → HearsAt self s k out at err place next back (at + n) new_err err_end
+    hears_at k err place new_err err_end g =
         record {
           reached = t.reached;
           leaves = λ b l. let e = t.leaves l.reached in lone_hears self b l s next (rw room at e);

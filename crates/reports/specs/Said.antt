@@ -23,14 +23,14 @@ pub record Sole (self : Memory) : Type 0 where
 
 -- a line is heard under a number: its reply stands behind the bytes that wait for standard output, its refusal behind those that wait
 -- for standard error
-pub record HearsAt (self : Memory) (s : List ℕ) (k : ℕ) (out : List ℕ) (at : ℕ) (err : List ℕ) (place : ℕ) (next : Memory) (newOut : List ℕ) (outEnd : ℕ) (newErr : List ℕ) (errEnd : ℕ) : Type 0 where
+pub record HearsAt (self : Memory) (s : List ℕ) (k : ℕ) (out : List ℕ) (at : ℕ) (err : List ℕ) (place : ℕ) (next : Memory) (new_out : List ℕ) (out_end : ℕ) (new_err : List ℕ) (err_end : ℕ) : Type 0 where
   pub reached : Reached next
   pub leaves : (b : P.Bench) → Lone self b → Lone next (P.hear width enough b s).next
-  pub outs : (b : P.Bench) → Lone self b → Writes out at (out_of (P.hear width enough b s).answer) newOut outEnd
-  pub errs : (b : P.Bench) → Lone self b → Writes err place (err_of k (P.hear width enough b s).answer) newErr errEnd
+  pub outs : (b : P.Bench) → Lone self b → Writes out at (out_of (P.hear width enough b s).answer) new_out out_end
+  pub errs : (b : P.Bench) → Lone self b → Writes err place (err_of k (P.hear width enough b s).answer) new_err err_end
 
 -- a set is taken
-pub record TakesAt (self : Memory) (out : List ℕ) (at : ℕ) (next : Memory) (newOut : List ℕ) (outEnd : ℕ) : Type 0 where
+pub record TakesAt (self : Memory) (out : List ℕ) (at : ℕ) (next : Memory) (new_out : List ℕ) (out_end : ℕ) : Type 0 where
   pub reached : Reached next
   pub leaves : (b : P.Bench) → Lone self b → Lone next (P.take_set enough b).next
-  pub outs : (b : P.Bench) → Lone self b → Writes out at (out_of (P.take_set enough b).answer) newOut outEnd
+  pub outs : (b : P.Bench) → Lone self b → Writes out at (out_of (P.take_set enough b).answer) new_out out_end

@@ -17,7 +17,7 @@ use Rattle.paper.specs.Diary.{diary, Does, needs}
 use Rattle.paper.proofs.Apart.{recalls}
 use Rattle.paper.proofs.HeldOpen.{SameForm, held_same, held_stored}
 use Rattle.paper.proofs.Sets.{Alike, from_recall}
-use Rattle.paper.proofs.Among.{Comes-out, order_among, same_among}
+use Rattle.paper.proofs.Among.{ComesOut, order_among, same_among}
 use Rattle.command.specs.View.{width}
 use Rattle.call.specs.Call.{Memory}
 use Rattle.tablets.specs.Calls.{Reached}
@@ -53,7 +53,7 @@ module _ (self : Memory) (k : Reached self) (t : ℕ) (l : t < 30) (name : List 
   -- DEMAND 3 among others: the order of a stored form comes out, with whatever else is sent by whom. No call that meets a need of
   -- it is refused, the takes wrote its sets, and each of these is well formed and within the limits
   pub chain_order : (ls : List FormLine) (given : List (List ℕ)) (n copies : ℕ) → Orders (desk k.class t) name ls given n copies
-      → (d : Does width (P.opened_with ls (asked ls)) (needs ls given n copies) (diary_of t m.next ms)) → Comes-out width ls given n copies d
+      → (d : Does width (P.opened_with ls (asked ls)) (needs ls given n copies) (diary_of t m.next ms)) → ComesOut width ls given n copies d
   chain_order ls given n copies o =
       rw recall_diary (order_among width t (room_of m) k.class f.line name ls given n copies (omega arith) (reached_sane self k) l o f.reads (map on_paper ms))
 

@@ -1,0 +1,12 @@
+-- Byte by byte: dropped, kept, or beyond what is looked at.
+use Prim.Native.Nat.{◌-◌}
+use lib.ListN.{length}
+use borrow.Author.Rules.{rules}
+use Rattle.dialogue.proofs.Keeping.{Keeping, keeping_begins, keeping_cr, keeping_eof, keeping_more, keeping_full, keeping_ends}
+use Rattle.dialogue.proofs.keep.put_kept.Given as goal
+
+abbrev pub invariant-loop-i : goal.invariant-loop-i
+invariant-loop-i l = Keeping l.initial.waiting l.len l.s l.waiting l.n l.i
+
+abbrev pub decreases-loop-i : goal.decreases-loop-i
+decreases-loop-i l = length l.s - l.i

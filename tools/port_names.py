@@ -50,6 +50,9 @@ MEET = {
 # with-held is an abbreviation in printing and a lemma in tablets.
 BY_CRATE = {('printing', 'with-held'): 'holding_held', ('call', 'with-held'): 'holding_held', ('tablets', 'with-held'): 'held_numbered'}
 
+# What the paper's words for bytes passed on of the library's.
+PRELUDE = set('ℕ zero suc ◌+◌ ◌-◌ ◌*◌ ◌/◌ ◌%◌ ◌^◌ ◌≤◌ ◌<◌ Bool true false ◌||◌ ◌&&◌ not List [] ◌∷◌ ◌++◌ map length drop replicate take ltb eqb leb ◌≡◌'.split())
+
 
 def snake(name):
     return re.sub(r"(?<=[a-z0-9'])[A-Z]", lambda m: '_' + m[0].lower(), name).replace('-', '_')
@@ -129,8 +132,31 @@ def main():
             new = ''.join(spans(p, turn) if i % 2 else clauses(p, turn, fields, meet) for i, p in enumerate(pieces))
         else:
             new = clauses(old, turn, fields, meet)
+        if steps[0] != 'streams':  # it has the library's choice
+            new = operators(new, path)
         if new != old:
             open(path, 'w', encoding='utf8').write(new)
+
+
+def operators(text, path):
+    """The choice of the paper is `when a then b else c`, since `if` is the library's; and what is the library's comes from the library."""
+    own = path.endswith('.antt')
+    pieces = split(text, '--' if own else '//')
+    for i in range(0, len(pieces), 2):
+        code = pieces[i].replace('if◌then◌else◌', 'when◌then◌else◌')
+        if own:
+            code = re.sub(r'(?<![^\s(){}.;,@"«»])if(?![^\s(){}.;,@"«»])', 'when', code)
+        pieces[i] = re.sub(r'^use Rattle\.paper\.specs\.Byte\.\{([^}]*)\}$', imported, code, flags=re.M)
+    text = ''.join(pieces)
+    return text.replace('pub use Rattle.std.specs.Prelude.', 'use Rattle.std.specs.Prelude.') if path.endswith('paper/specs/Byte.antt') else text
+
+
+def imported(m):
+    names = m[1].split(', ')
+    theirs = [n for n in names if n in PRELUDE]
+    ours = [n for n in names if n not in PRELUDE]
+    lines = ['use Rattle.std.specs.Prelude.{%s}' % ', '.join(theirs)] if theirs else []
+    return '\n'.join(lines + (['use Rattle.paper.specs.Byte.{%s}' % ', '.join(ours)] if ours else []))
 
 
 def clauses(text, turn, fields, meet):

@@ -7,7 +7,7 @@ use mathlib.Core.List.{List, [], ◌∷◌, ◌++◌}
 use mathlib.Core.Option.{Option, none, some, some-ne-none}
 use lib.ListN.{length, drop}
 use lib.Dec.{leb, eqb}
-use Rattle.paper.specs.Byte.{if◌then◌else◌, same}
+use Rattle.paper.specs.Byte.{when◌then◌else◌, same}
 use Rattle.paper.specs.Line.{kept, long, control}
 use Rattle.paper.specs.Command as C
 use Rattle.paper.specs.Command.{Define, FormLine}
@@ -28,8 +28,8 @@ abbrev pub OpensIn : ℕ → P.Outcome → Type 0
 OpensIn n o = Opens o.next.forms n o.next.session
 
 -- of two outcomes by a test
-opens_either : (n : ℕ) (t : Bool) (a b : P.Outcome) → OpensIn n a → OpensIn n b → OpensIn n (if t then a else b)
-unfolding if◌then◌else◌
+opens_either : (n : ℕ) (t : Bool) (a b : P.Outcome) → OpensIn n a → OpensIn n b → OpensIn n (when t then a else b)
+unfolding when◌then◌else◌
 opens_either n true a b p q = p
 opens_either n false a b p q = q
 
@@ -46,7 +46,7 @@ opens_refused fs n (P.printing ls given k c i) h = h
 
 -- the form of a name stands at its number
 pub found_lies : (name : List ℕ) (fs : List Form) (ls : List FormLine) → find name fs ≡ some ls → Lies fs (number_of name fs) ls
-unfolding find number_of if◌then◌else◌
+unfolding find number_of when◌then◌else◌
 found_lies name [] ls e = absurd (some-ne-none _ (sym e))
 found_lies name (f ∷ fs) ls e =
     either (same name f.name)
@@ -161,10 +161,10 @@ module _ (n : ℕ) (fs : List Form) (ls : List FormLine) (h : Lies fs n ls) wher
 
   -- a take
   opens_taken : (room : ℕ) (given : List (List ℕ)) (k c i : ℕ) → OpensIn n (P.taken room fs (P.printing ls given k c i))
-  unfolding P.taken P.replied P.outcome P.after_set if◌then◌else◌
+  unfolding P.taken P.replied P.outcome P.after_set when◌then◌else◌
   opens_taken room given k c i = opens_either n (leb (length (set_of ls given c i)) room) _ _ (next (eqb (suc i) k)) h
     where
-      next : (t : Bool) → Opens fs n (if t then P.idle else P.printing ls given k c (suc i))
+      next : (t : Bool) → Opens fs n (when t then P.idle else P.printing ls given k c (suc i))
       next true = tt
       next false = h
 

@@ -8,7 +8,6 @@ use Rattle.command.specs.Answer.{Meets}
 use Rattle.command.specs.declared.Answer.{Answer}
 use Rattle.session.specs.Memory.{Session, Shelf, packed_session, packed_shelf, Opens}
 use Rattle.session.specs.Outcome.{after_line}
-use Rattle.session.specs.declared.state.Mode.TheVariants as M
 use Rattle.seats.specs.Numbers.{held_in, filed_in}
 
 -- the memory of a bench: the forms' texts and names, the lengths of both, their plans and the store's numbers; the draft's name and text,

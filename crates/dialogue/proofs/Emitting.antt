@@ -5,7 +5,7 @@ use mathlib.Core.Bool.{true}
 use mathlib.Core.List.{List, [], ◌∷◌, ◌++◌, append_assoc, append-nil}
 use lib.Dec.{eqb}
 use borrow.Author.Tests.{eqb-true}
-use Rattle.paper.specs.Byte.{if◌then◌else◌, every}
+use Rattle.paper.specs.Byte.{when◌then◌else◌, every}
 use Rattle.paper.specs.Line.{lf, is_dropped, kept, cut}
 use Rattle.paper.specs.Class.{Class, begin_class}
 use Rattle.paper.specs.ClassProgram.{records, class_program}
@@ -37,7 +37,7 @@ records_line c w ss = refl
 
 -- reading on in the middle of a line: what is written are the records of the lines that this input completes
 emit_records : (c : Class) (s w : List ℕ) → every inside w ≡ true → emit (standing c w) s ≡ records width c (cut (w ++ kept s))
-unfolding emit answered step step_says waiting if◌then◌else◌ every
+unfolding emit answered step step_says waiting when◌then◌else◌ every
 emit_records c [] w e = rw (kept_none, append-nil w, cut_none w e, records_none c)
 emit_records c (b ∷ s) w e =
     either (eqb b lf)
@@ -60,7 +60,7 @@ Fed c (waits w) = []
 
 -- going byte by byte says what the line and the rest of the input say
 emit_feed : (c : Class) (s w : List ℕ) → emit (standing c w) s ≡ Fed c (feed w s)
-unfolding emit step step_says waiting feed if◌then◌else◌
+unfolding emit step step_says waiting feed when◌then◌else◌
 emit_feed c [] w = refl
 emit_feed c (b ∷ s) w = go (emit_feed c s w) (emit_feed c s (w ++ (b ∷ [])))
   where
@@ -74,7 +74,7 @@ Then c (line w rest) = after (answered (standing c w) w) rest
 Then c (waits w) = standing c w
 
 after_feed : (c : Class) (s w : List ℕ) → after (standing c w) s ≡ Then c (feed w s)
-unfolding after step waiting feed if◌then◌else◌
+unfolding after step waiting feed when◌then◌else◌
 after_feed c [] w = refl
 after_feed c (b ∷ s) w = go (after_feed c s w) (after_feed c s (w ++ (b ∷ [])))
   where

@@ -9,7 +9,7 @@ use lib.ListN.{length, take, drop, length-append, length-drop}
 use lib.Seq.{take_at, length-take-le}
 use lib.Dec.{ltb, leb}
 use borrow.Author.Tests.{lt-ltb}
-use Rattle.paper.specs.Byte.{if◌then◌else◌}
+use Rattle.paper.specs.Byte.{when◌then◌else◌}
 use Rattle.paper.specs.Refusal as R
 use Rattle.paper.specs.Bench as P
 use Rattle.paper.specs.State.{Sound}
@@ -157,7 +157,7 @@ record_takes room c left e = record_serves room c (turn c) left (λ t h. lt-ltb 
 
 -- a set in a state of which all holds that holds in such a class
 set_short : (room : ℕ) (forms : List Form) (st : P.Session) → Sound width forms st → length (out_of (P.taken room forms st).answer) ≤ 10291
-unfolding P.taken P.replied P.outcome P.refuse out_of if◌then◌else◌
+unfolding P.taken P.replied P.outcome P.refuse out_of when◌then◌else◌
 set_short room forms P.idle h = omega arith
 set_short room forms (P.collecting name ls) h = omega arith
 set_short room forms P.spoiled h = omega arith

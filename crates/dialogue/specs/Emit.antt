@@ -1,6 +1,6 @@
 -- The output of a class's run, piece of input by piece: what is written next depends on where the run stands.
 use Rattle.std.specs.Prelude.{ℕ, List, [], ◌∷◌, ◌++◌, eqb}
-use Rattle.paper.specs.Byte.{if◌then◌else◌}
+use Rattle.paper.specs.Byte.{when◌then◌else◌}
 use Rattle.paper.specs.Line.{lf, is_dropped}
 use Rattle.paper.specs.Class.{Class, begin_class, Reply}
 use Rattle.paper.specs.ClassProgram.{asked_in, reply_for, record_of}
@@ -37,11 +37,11 @@ waiting s w = record { class = s.class; wait = w }
 
 -- a byte of input: an LF has the line answered, a CR or 1AH leaves no trace, and all others wait
 unfoldable pub step : Standing → ℕ → Standing
-step s b = if eqb b lf then answered s s.wait else if is_dropped b then s else waiting s (s.wait ++ (b ∷ []))
+step s b = when eqb b lf then answered s s.wait else when is_dropped b then s else waiting s (s.wait ++ (b ∷ []))
 
 -- and what it adds
 unfoldable pub step_says : Standing → ℕ → List ℕ
-step_says s b = if eqb b lf then answered_says s s.wait else []
+step_says s b = when eqb b lf then answered_says s s.wait else []
 
 -- a piece of input, byte by byte
 unfoldable pub after : Standing → List ℕ → Standing

@@ -1,6 +1,6 @@
 -- What `step` and `fill` promise: which bytes stand behind those that wait, where the run stands then, and why it stopped.
 use Rattle.std.specs.Prelude.{ℕ, ◌+◌, ◌≤◌, ◌<◌, ◌≡◌, Bool, true, false, List, ◌++◌, length}
-use Rattle.paper.specs.Byte.{if◌then◌else◌}
+use Rattle.paper.specs.Byte.{when◌then◌else◌}
 use Rattle.paper.specs.Line.{kept}
 use Rattle.text.specs.Place.{from}
 use Rattle.text.specs.Write.{Writes}
@@ -59,7 +59,7 @@ pub record Gathered (old : List ℕ) (len : ℕ) (rest : List ℕ) (shown : Bool
 
 -- the bytes of a line: in the input, or gathered
 unfoldable pub line_by : Bool → List ℕ → List ℕ → List ℕ
-line_by shown rest gathered = if shown then rest else gathered
+line_by shown rest gathered = when shown then rest else gathered
 
 -- from a standing, with input to come, to a run with input to come: what was said. Whatever follows, all that was to be said
 -- is this and what is still to be said, and the run comes to stand where it was to stand

@@ -7,7 +7,7 @@ use native.Mathlib.Omega.{arith}
 use lib.ListN.{length, take, get_or, length-append}
 use lib.Seq.{length-take-le}
 use lib.Dec.{leb}
-use Rattle.paper.specs.Byte.{if◌then◌else◌, bytes, between, every, any, among, same}
+use Rattle.paper.specs.Byte.{when◌then◌else◌, bytes, between, every, any, among, same}
 use Rattle.paper.specs.Line.{is_digit}
 use Rattle.paper.specs.Command.{is_name, is_name_byte, star}
 use Rattle.paper.specs.Form.{text_of, used}
@@ -232,7 +232,7 @@ deletes_text name d text e = sym (name_bytes name d.text d.is) ∙ name_bytes na
 
 -- with the star every form leaves
 pub removes_all : (shelf : Shelf) (name : Name) (less : Shelf) → Deletes name → get_or name.bytes 0 0 ≡ 42 → less ≡ packed_shelf [] → Removes shelf name less
-unfolding named P.deleted if◌then◌else◌
+unfolding named P.deleted when◌then◌else◌
 removes_all shelf name less d e p =
     record {
       removes = λ session a text is.
@@ -271,7 +271,7 @@ finds_leaving shelf key found index start size k f e =
 -- with a name its form leaves
 pub removes_one : (shelf : Shelf) (name : Name) (found : Found) (index start size : ℕ) (less : Shelf) → (get_or name.bytes 0 0 ≡ 42 → ⊥)
     → Finds shelf.store (take name.len name.bytes) found → found ≡ F.At index start size → Left shelf index start size less → Removes shelf name less
-unfolding named P.deleted if◌then◌else◌ found_leaving
+unfolding named P.deleted when◌then◌else◌ found_leaving
 removes_one shelf name found index start size less n f e l =
     record {
       removes = λ session a text is.
@@ -285,7 +285,7 @@ removes_one shelf name found index start size less n f e l =
 -- or none does, where it has none
 pub removes_none : (shelf : Shelf) (name : Name) (found : Found) → (get_or name.bytes 0 0 ≡ 42 → ⊥)
     → Finds shelf.store (take name.len name.bytes) found → found ≡ F.Absent → Removes shelf name shelf
-unfolding named P.deleted if◌then◌else◌
+unfolding named P.deleted when◌then◌else◌
 removes_none shelf name found n f e =
     record {
       removes = λ session a text is.

@@ -12,7 +12,7 @@ use lib.Dec.{leb, ltb}
 use borrow.Author.Tests.{leb-true, ltb-true, le-leb, not-true, not-false}
 use Rattle.paper.specs.Command as C
 use Rattle.paper.specs.Command.{Define, FormLine, all, keep, file, finish}
-use Rattle.paper.specs.Form.{Form, text_of, within_limits, asked, rules, first_broken, unsound_at, used, has_room, stored}
+use Rattle.paper.specs.Form.{Form, text_of, within_limits, asked, rules, first_broken, unsound_at, has_room, stored}
 use Rattle.paper.specs.Write.{line_text, normal, lines_text}
 use Rattle.paper.specs.State.{all_in, Draft, Storable}
 use Rattle.paper.specs.Bench as P

@@ -7,7 +7,7 @@ use lib.ListN.{length, take, get_or, replicate}
 use lib.Seq.{length-take-le}
 use lib.Dec.{leb}
 use borrow.Author.Tests.{eq-eqb, ne_eqb}
-use Rattle.paper.specs.Byte.{if◌then◌else◌}
+use Rattle.paper.specs.Byte.{when◌then◌else◌}
 use Rattle.paper.specs.Command.{Define, FormLine, start, inform, recall, delete, file}
 use Rattle.paper.specs.Form.{Form, text_of, asked, is_some, listing}
 use Rattle.paper.specs.Bench as P
@@ -115,7 +115,7 @@ spotted session shelf a text found index place len f q =
 pub start_taken : (session : Session) (store : Store) (s : List ℕ) (string : Span) (name : Name) (found : Found) (index place len : ℕ) (turn : Turn) → Tagged (0 ∷ []) session
     → name ≡ named (text_in s string) → Finds store (take name.len name.bytes) found → found ≡ F.At index place len → turn ≡ record { answer = A.Refused W.NameTaken; held = session.held }
     → Consults session store (file (start (text_in s string))) turn.answer (session_of turn.held session.name session.text session.answers session.values)
-unfolding obey P.in_idle P.filed P.refuse P.after_refusal is_some refusal_of if◌then◌else◌ after_command after_filing
+unfolding obey P.in_idle P.filed P.refuse P.after_refusal is_some refusal_of when◌then◌else◌ after_command after_filing
 start_taken session store s string name found index place len turn t e f q r =
     rw r
     (record {
@@ -158,7 +158,7 @@ pub start_begins : (session : Session) (store : Store) (s : List ℕ) (string : 
     → name ≡ named (text_in s string) → Finds store (take name.len name.bytes) found → found ≡ F.Absent → Writes session.name 0 (take name.len name.bytes) bytes end
     → turn ≡ record { answer = A.Accepted 0; held = record { mode = M.Collecting 0; form = session.held.form; start = session.held.start; size = session.held.size; len = name.len; drafted = session.held.drafted; given = session.held.given } }
     → Consults session store (file (start (text_in s string))) turn.answer (session_of turn.held bytes session.text session.answers session.values)
-unfolding obey P.in_idle P.filed is_some if◌then◌else◌ packed_session text_of lines_text after_command after_filing
+unfolding obey P.in_idle P.filed is_some when◌then◌else◌ packed_session text_of lines_text after_command after_filing
 start_begins session store s string name found bytes end turn t h e f q w r =
     rw r
     (record {
@@ -188,7 +188,7 @@ listing_size session store old new n k p = sym (length-take-le n new (listing_in
 -- a reply that leaves the state
 replies : (bytes old new : List ℕ) (answer : Answer) (fs : List Form) (n : ℕ) (st : P.Session) (session : Session) (shelf : Shelf) → Meets (handed (length old) bytes) old new answer
     → session ≡ packed_session fs n st → shelf ≡ packed_shelf fs → Does (P.replied (length old) bytes fs st st) n old new answer session shelf
-unfolding handed P.replied P.outcome if◌then◌else◌
+unfolding handed P.replied P.outcome when◌then◌else◌
 replies bytes old new answer fs n st session shelf m e f =
     either (leb (length bytes) (length old))
     (λ y. rw y (record { meets = rw y at m; session = e; shelf = f }))
@@ -224,12 +224,12 @@ recall_inside session shelf index a h =
 
 -- where a plan asks for nothing a form is ready
 pub opening_ready : (n : ℕ) → n ≡ 0 → M.Ready ≡ opens_by n
-unfolding opens_by if◌then◌else◌
+unfolding opens_by when◌then◌else◌
 opening_ready n e = rw (eq-eqb n 0 e)
 
 -- and where it does it is opened
 pub opening_asks : (n : ℕ) → (n ≡ 0 → ⊥) → M.Opened ≡ opens_by n
-unfolding opens_by if◌then◌else◌
+unfolding opens_by when◌then◌else◌
 opening_asks n e = rw (ne_eqb n 0 e)
 
 -- no answer gives no value
@@ -240,7 +240,7 @@ values_none (d ∷ ds) = refl
 
 -- the memory of a form that is opened
 opened_holds : (fs : List Form) (n : ℕ) (ls : List FormLine) (ds : List Define) → packed_session fs n (P.opened_with ls ds) ≡ holding (opens_by (length ds)) fs n ls []
-unfolding packed_session P.opened_with opens_by if◌then◌else◌
+unfolding packed_session P.opened_with opens_by when◌then◌else◌
 opened_holds fs n ls [] = refl
 opened_holds fs n ls (d ∷ ds) =
     ap (λ mode. holding mode fs n ls []) (opening_asks (suc (length ds)) (λ z. omega arith))

@@ -5,7 +5,7 @@ use mathlib.Core.List.{List, [], ◌∷◌, ◌++◌}
 use mathlib.Core.Option.{none, some}
 use native.Mathlib.Omega.{arith}
 use lib.ListN.{length, length-append}
-use Rattle.paper.specs.Byte.{if◌then◌else◌, same}
+use Rattle.paper.specs.Byte.{when◌then◌else◌, same}
 use Rattle.paper.specs.Form.{Form, text_of, find, without, names, listing}
 use Rattle.paper.specs.State.{AllStored}
 use Rattle.paper.proofs.Store.{without_absent}
@@ -43,7 +43,7 @@ entries_place (f ∷ fs) gs = rw (length-append, entries_place fs gs)
 
 -- where nothing is found there is no form of the name
 pub entries_absent : (name : List ℕ) (fs : List Form) (i start : ℕ) → find_from i start name (entries_of fs) ≡ F.Absent → find name fs ≡ none
-unfolding entries_of entry find_from find if◌then◌else◌
+unfolding entries_of entry find_from find when◌then◌else◌
 entries_absent name [] i start e = refl
 entries_absent name (f ∷ fs) i start e =
     either (same name f.name)
@@ -67,7 +67,7 @@ pub record Among (name : List ℕ) (fs : List Form) (i from index start size : �
 -- what is found is that form
 pub entries_found : (name : List ℕ) (fs : List Form) (i from index start size : ℕ) → AllStored width fs
     → find_from i from name (entries_of fs) ≡ F.At index start size → Among name fs i from index start size
-unfolding entries_of entry find_from find without place_of number_of if◌then◌else◌
+unfolding entries_of entry find_from find without place_of number_of when◌then◌else◌
 entries_found name [] i from index start size h e = let z : ◌≡◌ {A = ℕ} 0 1 = cc in absurd (omega arith)
 entries_found name (f ∷ fs) i from index start size h e =
     either (same name f.name)

@@ -9,7 +9,7 @@ use lib.ListN.{length, drop, take, length-drop}
 use lib.Seq.{drop-drop, take_at, take_all}
 use lib.Dec.{eqb, ltb}
 use borrow.Author.Tests.{not-true, eqb-true, ltb-true, ltb-false}
-use Rattle.paper.specs.Byte.{if◌then◌else◌, every}
+use Rattle.paper.specs.Byte.{when◌then◌else◌, every}
 use Rattle.paper.specs.Line.{lf, is_dropped, kept, infront, cut}
 use Rattle.paper.proofs.Law.{if_true, if_false, and_left, and_right}
 use Rattle.paper.proofs.Test.{either}
@@ -25,14 +25,14 @@ inside b = not (eqb b lf)
 
 -- a text without LF, before an LF, is the first line
 pub cut_at : (w x : List ℕ) → every inside w ≡ true → cut (w ++ (lf ∷ x)) ≡ w ∷ cut x
-unfolding cut infront every if◌then◌else◌
+unfolding cut infront every when◌then◌else◌
 cut_at [] x e = refl
 cut_at (b ∷ w) x e =
     rw (not-true (eqb b lf) (and_left (inside b) (every inside w) e), cut_at w x (and_right (inside b) (every inside w) e))
 
 -- and without an LF there is no line
 pub cut_none : (w : List ℕ) → every inside w ≡ true → cut w ≡ []
-unfolding cut infront every if◌then◌else◌
+unfolding cut infront every when◌then◌else◌
 cut_none [] e = refl
 cut_none (b ∷ w) e =
     rw (not-true (eqb b lf) (and_left (inside b) (every inside w) e), cut_none w (and_right (inside b) (every inside w) e))
@@ -64,7 +64,7 @@ inside_more w b e n = every_append inside w (b ∷ []) ∙ rw (e, n)
 
 -- bytes of which none ends a line
 pub feed_inside : (w u rest : List ℕ) → every inside u ≡ true → feed w (u ++ rest) ≡ feed (w ++ kept u) rest
-unfolding feed every if◌then◌else◌
+unfolding feed every when◌then◌else◌
 feed_inside w [] rest e = rw (kept_none, append-nil w)
 feed_inside w (b ∷ u) rest e =
     go (feed_inside w u rest (and_right (inside b) (every inside u) e)) (feed_inside (w ++ (b ∷ [])) u rest (and_right (inside b) (every inside u) e))
@@ -79,7 +79,7 @@ feed_inside w (b ∷ u) rest e =
 
 -- the LF behind them does
 pub feed_line : (w u rest : List ℕ) → every inside u ≡ true → feed w (u ++ (lf ∷ rest)) ≡ line (w ++ kept u) rest
-unfolding feed if◌then◌else◌
+unfolding feed when◌then◌else◌
 feed_line w u rest e = feed_inside w u (lf ∷ rest) e
 
 -- the bytes before the first LF

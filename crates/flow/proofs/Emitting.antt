@@ -7,7 +7,7 @@ use lib.Dec.{eqb}
 use native.Mathlib.Omega.{arith}
 use native.Mathlib.Numerals.{add-one}
 use borrow.Author.Tests.{eqb-true}
-use Rattle.paper.specs.Byte.{if◌then◌else◌, every}
+use Rattle.paper.specs.Byte.{when◌then◌else◌, every}
 use Rattle.paper.specs.Line.{lf, is_dropped, kept, cut}
 use Rattle.paper.specs.Bench.{Bench, begin, take_set}
 use Rattle.paper.specs.Program.{Output, enough, out_of, takes, after_takes, runs, program}
@@ -68,7 +68,7 @@ runs_line b n w ss = rw (add-one (n + 1), append_assoc)
 
 -- reading on in the middle of a line: what is written is the paper's run of the lines that this input completes
 emit_runs : (b : Bench) (n : ℕ) (s w : List ℕ) → every inside w ≡ true → emit (resting b w n) s ≡ runs width (n + 1) b (cut (w ++ kept s))
-unfolding emit settled sets_say takes after_takes heard step step_says waiting if◌then◌else◌ every
+unfolding emit settled sets_say takes after_takes heard step step_says waiting when◌then◌else◌ every
 emit_runs b n [] w e = rw (kept_none, append-nil w, cut_none w e, runs_none b (n + 1))
 emit_runs b n (c ∷ s) w e =
     either (eqb c lf)
@@ -111,7 +111,7 @@ Fed b n (waits w) = silence
 
 -- going byte by byte says what the line and the rest of the input say
 emit_feed : (b : Bench) (n : ℕ) (s w : List ℕ) → emit (resting b w n) s ≡ Fed b n (feed w s)
-unfolding emit settled sets_say takes after_takes step step_says waiting feed if◌then◌else◌
+unfolding emit settled sets_say takes after_takes step step_says waiting feed when◌then◌else◌
 emit_feed b n [] w = refl
 emit_feed b n (c ∷ s) w = go (emit_feed b n s w) (emit_feed b n s (w ++ (c ∷ [])))
   where
@@ -127,7 +127,7 @@ Then b n (line w rest) = after (heard (resting b w n) w) rest
 Then b n (waits w) = resting b w n
 
 after_feed : (b : Bench) (n : ℕ) (s w : List ℕ) → after (resting b w n) s ≡ Then b n (feed w s)
-unfolding after settled after_takes step waiting feed if◌then◌else◌
+unfolding after settled after_takes step waiting feed when◌then◌else◌
 after_feed b n [] w = refl
 after_feed b n (c ∷ s) w = go (after_feed b n s w) (after_feed b n s (w ++ (c ∷ [])))
   where

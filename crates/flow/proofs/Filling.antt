@@ -7,7 +7,7 @@ use native.Mathlib.Omega.{arith}
 use lib.ListN.{length, take, drop, drop_of_length-le}
 use lib.Dec.{eqb, ltb}
 use borrow.Author.Tests.{eqb-true, ltb-true, ltb-false}
-use Rattle.paper.specs.Byte.{if◌then◌else◌}
+use Rattle.paper.specs.Byte.{when◌then◌else◌}
 use Rattle.paper.specs.Line.{lf, kept}
 use Rattle.paper.specs.Bench as P
 use Rattle.paper.specs.State.{Led, hearing, taking}
@@ -62,7 +62,7 @@ due_at {d} {s} a = omega (arith, a.leaves, a.due, left_few s.bench.forms s.bench
 
 -- what is left to the tablet is what its bench has left
 left_due : (memory : Memory) (b : P.Bench) (n : ℕ) → Lone memory b → SetsLeft memory.held 0 n → n ≡ to_take b.session
-unfolding reached_counts left_of thirty desk if◌then◌else◌
+unfolding reached_counts left_of thirty desk when◌then◌else◌
 left_due memory b n l tells = tells.is (reached_counts memory l.reached) ∙ ap (λ (x : P.Bench). to_take x.session) l.is
 
 -- behind a set one less is left to be taken

@@ -1,6 +1,6 @@
 -- The output of a run, piece of input by piece: what is written next depends on where the run stands.
 use Rattle.std.specs.Prelude.{ℕ, ◌+◌, ◌-◌, List, [], ◌∷◌, ◌++◌, eqb}
-use Rattle.paper.specs.Byte.{if◌then◌else◌}
+use Rattle.paper.specs.Byte.{when◌then◌else◌}
 use Rattle.paper.specs.Line.{lf, is_dropped}
 use Rattle.paper.specs.Bench.{Bench, begin, Outcome, hear, take_set}
 use Rattle.paper.specs.Program.{Output, enough, out_of, err_of, to_take, takes, after_takes}
@@ -59,11 +59,11 @@ waiting s w = record { bench = s.bench; wait = w; lines = s.lines; left = s.left
 
 -- a byte of input: an LF has the line heard, a CR or 1AH leaves no trace, and all others wait
 unfoldable pub step : Standing → ℕ → Standing
-step s b = if eqb b lf then heard s s.wait else if is_dropped b then s else waiting s (s.wait ++ (b ∷ []))
+step s b = when eqb b lf then heard s s.wait else when is_dropped b then s else waiting s (s.wait ++ (b ∷ []))
 
 -- and what it adds
 unfoldable pub step_says : Standing → ℕ → Output
-step_says s b = if eqb b lf then heard_says s s.wait else silence
+step_says s b = when eqb b lf then heard_says s s.wait else silence
 
 -- a piece of input: the sets that are left are taken before each byte and behind the last
 unfoldable pub after : Standing → List ℕ → Standing

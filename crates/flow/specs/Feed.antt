@@ -1,6 +1,6 @@
 -- What a piece of input gives behind the bytes that wait.
 use Rattle.std.specs.Prelude.{ℕ, List, [], ◌∷◌, ◌++◌, eqb}
-use Rattle.paper.specs.Byte.{if◌then◌else◌}
+use Rattle.paper.specs.Byte.{when◌then◌else◌}
 use Rattle.paper.specs.Line.{lf, is_dropped}
 
 -- a line that has ended and the input behind it, or the bytes that wait then
@@ -11,4 +11,4 @@ pub data Piece : Type 0 where
 -- a piece of input, byte by byte, behind the bytes that wait
 unfoldable pub feed : List ℕ → List ℕ → Piece
 feed w [] = waits w
-feed w (b ∷ s) = if eqb b lf then line w s else if is_dropped b then feed w s else feed (w ++ (b ∷ [])) s
+feed w (b ∷ s) = when eqb b lf then line w s else when is_dropped b then feed w s else feed (w ++ (b ∷ [])) s

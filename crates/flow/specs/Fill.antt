@@ -1,6 +1,6 @@
 -- What `step` and `fill` promise: which bytes stand behind those that wait, where the run stands then, and why it stopped.
 use Rattle.std.specs.Prelude.{ℕ, ◌+◌, ◌-◌, ◌*◌, ◌^◌, ◌≤◌, ◌<◌, ◌≡◌, Bool, true, false, List, ◌++◌, length, take, drop, eqb}
-use Rattle.paper.specs.Byte.{if◌then◌else◌, every}
+use Rattle.paper.specs.Byte.{when◌then◌else◌, every}
 use Rattle.paper.specs.Command.{is_shown}
 use Rattle.paper.specs.Line.{kept}
 use Rattle.paper.specs.State.{Led}
@@ -87,7 +87,7 @@ pub record Gathered (old : List ℕ) (len : ℕ) (rest new : List ℕ) (n : ℕ)
 
 -- the bytes of a line: in the input, or gathered
 unfoldable pub line_by : ℕ → List ℕ → List ℕ → List ℕ
-line_by len rest gathered = if eqb len 0 then rest else gathered
+line_by len rest gathered = when eqb len 0 then rest else gathered
 
 -- from a standing, with input to come, to a run with input to come: what was said. Whatever follows, all that was to be said
 -- is this and what is still to be said, and the run comes to stand where it was to stand

@@ -4,7 +4,7 @@ use mathlib.Core.Path.{◌≡◌, refl, sym, ◌∙◌, ap}
 use mathlib.Core.Bool.{true}
 use mathlib.Core.List.{List, [], ◌∷◌, ◌++◌}
 use native.Mathlib.Omega.{arith}
-use Rattle.paper.specs.Byte.{code, bytes, if◌then◌else◌, between, every}
+use Rattle.paper.specs.Byte.{code, bytes, when◌then◌else◌, between, every}
 use Rattle.paper.specs.Line.{Got, got, bad, Reader, ◌>>=◌, followed, give, one, byte, comma, part, digit, two_digits, number, letter, quoted}
 use Rattle.paper.specs.Command as P
 use Rattle.paper.specs.Command.{ranges, define_ranges, in_range}
@@ -93,7 +93,7 @@ tells_counter n len step x = tells_give _ _ x (rw step_again)
 
 -- a part with its comma is read back, and what stands behind it is left
 part_back : {A : Type 0} {p : Reader A} {a : A} {u : List ℕ} {k : ℕ} → Back p a u k → (v : List ℕ) → part p (u ++ (code "," ∷ v)) ≡ got a v
-unfolding part followed comma byte one if◌then◌else◌ give
+unfolding part followed comma byte one when◌then◌else◌ give
 part_back b v = rw (b.reads (code "," ∷ v) refl)
 
 -- the text of a variable's definition in range gives it back

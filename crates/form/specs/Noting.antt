@@ -8,7 +8,7 @@ use Rattle.text.specs.Place.{from}
 use Rattle.text.specs.Write.{padded}
 use Rattle.command.specs.View.{width}
 use Rattle.form.specs.Asked.{define_of}
-use Rattle.form.specs.Plan.{number_of, kind_of, step_size, defines_in, Shows, nothing, value, gives_way, Piece, unless_none, if_value, opens_at, pieces, behind_in, pieces_in, plan_of}
+use Rattle.form.specs.Plan.{number_of, kind_of, step_size, defines_in, Shows, nothing, gives_way, Piece, unless_none, if_value, opens_at, pieces, behind_in, pieces_in, plan_of}
 use Rattle.form.specs.Ending.{ending_of, tail_of, number_in}
 use Rattle.form.specs.declared.asked.Define.{Define}
 use Rattle.form.specs.declared.ending.Ending.{Ending}

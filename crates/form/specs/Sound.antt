@@ -1,14 +1,14 @@
 -- The check of a form in the code's words.
 use Rattle.std.specs.Prelude.{ℕ, ◌+◌, ◌≤◌, ◌≡◌, Bool, true, List, [], ◌∷◌, ◌++◌, length, get_or, ltb}
 use Rattle.std.proofs.Math.Option.{Option, none, some}
-use Rattle.paper.specs.Byte.{if◌then◌else◌}
+use Rattle.paper.specs.Byte.{when◌then◌else◌}
 use Rattle.paper.specs.Command as P
 use Rattle.paper.specs.Command.{all}
 use Rattle.paper.specs.Form.{asked, len_of, defined, rules}
 
 -- where the len of a value is noted: those of a kind from a first place on, with numbers up to a last; 26 for any other
 unfoldable pub place_in : (first last : ℕ) → ℕ → ℕ
-place_in first last n = if ltb last n then 26 else first + n
+place_in first last n = when ltb last n then 26 else first + n
 
 -- the counters first and then the variables
 unfoldable pub slot_of : P.Value → ℕ

@@ -5,7 +5,7 @@ use mathlib.Core.Bool.{true, not}
 use mathlib.Core.List.{List, [], ◌∷◌, ◌++◌, map, append_assoc, append-nil}
 use lib.Dec.{eqb}
 use borrow.Author.Tests.{not-true}
-use Rattle.paper.specs.Byte.{every, bytes, if◌then◌else◌}
+use Rattle.paper.specs.Byte.{every, bytes, when◌then◌else◌}
 use Rattle.paper.specs.Line.{lf, is_dropped, kept}
 use Rattle.paper.specs.Refusal as R
 use Rattle.paper.specs.Class.{Class}
@@ -33,7 +33,7 @@ ahead w p = record { lines = w ∷ p.lines; wait = p.wait }
 -- bytes behind those that wait
 unfoldable pour : List ℕ → List ℕ → Poured
 pour w [] = record { lines = []; wait = w }
-pour w (b ∷ s) = if eqb b lf then ahead w (pour [] s) else if is_dropped b then pour w s else pour (w ++ (b ∷ [])) s
+pour w (b ∷ s) = when eqb b lf then ahead w (pour [] s) else when is_dropped b then pour w s else pour (w ++ (b ∷ [])) s
 
 -- bytes of one line
 pour_inside : (s w x : List ℕ) → every (λ b. not (eqb b lf)) s ≡ true → pour w (s ++ x) ≡ pour (w ++ kept s) x
@@ -49,12 +49,12 @@ pour_inside (b ∷ s) w x e =
 
 -- an LF ends it
 pour_end : (w x : List ℕ) → pour w (lf ∷ x) ≡ ahead w (pour [] x)
-unfolding pour if◌then◌else◌
+unfolding pour when◌then◌else◌
 pour_end w x = refl
 
 -- the three lines, whatever waits before the first
 pour_freeing : (w : List ℕ) → pour w freeing ≡ record { lines = broken w ∷ bytes "FE" ∷ bytes "N" ∷ []; wait = [] }
-unfolding pour ahead freeing broken bytes is_dropped if◌then◌else◌
+unfolding pour ahead freeing broken bytes is_dropped when◌then◌else◌
 pour_freeing w = refl
 
 -- more of a line waits

@@ -7,7 +7,7 @@ use mathlib.Core.Option.{some}
 use native.Mathlib.Omega.{arith}
 use lib.Dec.{eqb}
 use borrow.Author.Tests.{eqb-true, lt-ltb}
-use Rattle.paper.specs.Byte.{bytes, decimal, if◌then◌else◌, between}
+use Rattle.paper.specs.Byte.{bytes, decimal, when◌then◌else◌, between}
 use Rattle.paper.specs.Line.{got, bad, followed, give, byte, one, is_digit, digit, number}
 use Rattle.paper.specs.Read.{these}
 use Rattle.paper.specs.Program.{enough, to_take}
@@ -23,7 +23,7 @@ use Rattle.freeing.specs.Records.{addressed}
 
 -- a line that begins with a number is no take
 number_first : (x : List ℕ) (n : ℕ) (r : List ℕ) → number x ≡ got n r → take_line x ≡ bad
-unfolding take_line these bytes byte one followed if◌then◌else◌ number digit is_digit between give
+unfolding take_line these bytes byte one followed when◌then◌else◌ number digit is_digit between give
 number_first [] n r e = let z : ◌≡◌ {A = ℕ} 0 1 = cc in absurd (omega arith)
 number_first (b ∷ s) n r e = go (eqb b 116) refl e
   where
@@ -33,14 +33,14 @@ number_first (b ∷ s) n r e = go (eqb b 116) refl e
 
 -- a tablet's line asks for itself
 sent_asks : (t : ℕ) (s : List ℕ) → t < 30 → asked_in (addressed t s) ≡ some (sends t enough s)
-unfolding asked_in call_in tablet_line addressed remaining byte one followed give if◌then◌else◌
+unfolding asked_in call_in tablet_line addressed remaining byte one followed give when◌then◌else◌
 sent_asks t s l =
     let number_is : number (decimal t ++ (32 ∷ s)) ≡ got t (32 ∷ s) = number_decimal t (32 ∷ s) (omega arith) refl in
     ap call_in (or_else_bad take_line tablet_line (decimal t ++ (32 ∷ s)) (number_first _ t _ number_is)) ∙ rw number_is
 
 -- it is that tablet's call
 sent_whose : (room : ℕ) (c : Class) (t : ℕ) (s : List ℕ) → t < 30 → (hear_from width room c t s).whose ≡ some t
-unfolding hear_from hear_of reply thirty if◌then◌else◌
+unfolding hear_from hear_of reply thirty when◌then◌else◌
 sent_whose room c t s l = rw (lt-ltb t 30 l)
 
 -- the record of a refusal names no tablet

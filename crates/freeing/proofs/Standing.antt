@@ -5,7 +5,7 @@ use mathlib.Core.List.{List, [], ◌∷◌, ◌++◌, append_assoc}
 use native.Mathlib.Omega.{arith}
 use lib.ListN.{length, drop_of_length-le}
 use lib.Dec.{eqb}
-use Rattle.paper.specs.Byte.{bytes, if◌then◌else◌}
+use Rattle.paper.specs.Byte.{bytes, when◌then◌else◌}
 use Rattle.paper.specs.Line.{lf, is_dropped}
 use Rattle.paper.specs.Refusal.{Answer, accepted, refused}
 use Rattle.paper.specs.Bench.{Session, idle, collecting, spoiled, opened, answering, ready, printing, Bench, begin, outcome, done, refuse, after_refusal, hear, take_set}
@@ -48,15 +48,15 @@ line_goes s input v rest a st none_left fed e none_due =
 
 -- each of the three ends a line
 feed_first : (w x : List ℕ) → feed w (1 ∷ lf ∷ x) ≡ line (broken w) x
-unfolding feed broken is_dropped if◌then◌else◌
+unfolding feed broken is_dropped when◌then◌else◌
 feed_first w x = refl
 
 feed_second : (x : List ℕ) → feed [] (bytes "FE" ++ (lf ∷ x)) ≡ line (bytes "FE") x
-unfolding feed bytes is_dropped if◌then◌else◌
+unfolding feed bytes is_dropped when◌then◌else◌
 feed_second x = refl
 
 feed_third : (x : List ℕ) → feed [] (bytes "N" ++ (lf ∷ x)) ≡ line (bytes "N") x
-unfolding feed bytes is_dropped if◌then◌else◌
+unfolding feed bytes is_dropped when◌then◌else◌
 feed_third x = refl
 
 -- no set is left behind the first two where none was left before

@@ -7,14 +7,11 @@ use native.Mathlib.Omega.{arith}
 use native.Mathlib.Nat.{suc-mul}
 use lib.ListN.{length, take, drop, get_or, length-append, length-drop}
 use lib.Seq.{drop-drop, drop-append-le, take-append-le, get_or-take, get_or-drop}
-use lib.Dec.{leb}
 use borrow.Author.Tests.{eq-eqb}
 use borrow.Rule.Slice.PartMut.{same_len_mid}
 use Rattle.paper.specs.Form.{Form}
 use Rattle.paper.specs.Bench as P
-use Rattle.paper.specs.Set.{set_of}
 use Rattle.paper.specs.Class.{seat}
-use Rattle.paper.proofs.Law.{by_test}
 use Rattle.paper.proofs.Invariant.{take_forms}
 use Rattle.paper.proofs.Apart.{seat_own, seat_other}
 use Rattle.command.specs.declared.Answer.{Answer}

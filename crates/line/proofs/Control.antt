@@ -8,7 +8,7 @@ use native.Mathlib.Numerals.{add-one}
 use lib.ListN.{length, take, drop, get_or, drop_of_length-le, take-append-drop}
 use lib.Seq.{drop-cons, take-length}
 use borrow.Author.Tests.{le-leb, lt-leb, lt-ltb}
-use Rattle.paper.specs.Byte.{between, every, if◌then◌else◌}
+use Rattle.paper.specs.Byte.{between, every, when◌then◌else◌}
 use Rattle.paper.specs.Line.{control}
 use Rattle.paper.specs.Command.{is_shown}
 use Rattle.paper.proofs.Law.{and_both, by_test}
@@ -18,13 +18,13 @@ use Rattle.line.specs.Shown.{clear_part}
 
 -- the walk over a text's bytes: one more is shown
 pub clear_turns : (text : List ℕ) (at i : ℕ) → at + length (clear_part (from text at)) ≡ i + length (clear_part (from text i)) → i < length text → 32 ≤ get_or text i 0 → get_or text i 0 < 256 → at + length (clear_part (from text at)) ≡ i + 1 + length (clear_part (from text (i + 1)))
-unfolding clear_part from is_shown between if◌then◌else◌
+unfolding clear_part from is_shown between when◌then◌else◌
 clear_turns text at i e h low high =
     e ∙ rw (drop-cons text i 0 h, add-one, le-leb 32 (get_or text i 0) low, le-leb (get_or text i 0) 255 (omega arith)) (omega arith)
 
 -- a byte below 20H ends it
 pub clear_here : (text : List ℕ) (at i : ℕ) → at + length (clear_part (from text at)) ≡ i + length (clear_part (from text i)) → i < length text → get_or text i 0 < 32 → i ≡ at + length (clear_part (from text at))
-unfolding clear_part from is_shown between if◌then◌else◌
+unfolding clear_part from is_shown between when◌then◌else◌
 clear_here text at i e h low = sym (e ∙ rw (drop-cons text i 0 h, lt-leb 32 (get_or text i 0) low) (omega arith))
 
 -- and so does the end of the text
@@ -34,21 +34,21 @@ clear_none text at i e h = sym (e ∙ rw (drop_of_length-le text {i = i} h) (ome
 
 -- all before it are shown
 pub clear_shown : (s : List ℕ) → every is_shown (clear_part s) ≡ true
-unfolding clear_part every if◌then◌else◌
+unfolding clear_part every when◌then◌else◌
 clear_shown [] = refl
 clear_shown (b ∷ s) = go (is_shown b) refl (clear_shown s)
   where
-    go : (t : Bool) → is_shown b ≡ t → every is_shown (clear_part s) ≡ true → every is_shown (if t then (b ∷ clear_part s) else []) ≡ true
+    go : (t : Bool) → is_shown b ≡ t → every is_shown (clear_part s) ≡ true → every is_shown (when t then (b ∷ clear_part s) else []) ≡ true
     go true e ih = and_both (is_shown b) _ e ih
     go false e ih = refl
 
 -- and they stand at the front of the text
 pub clear_take : (s : List ℕ) → take (length (clear_part s)) s ≡ clear_part s
-unfolding clear_part if◌then◌else◌
+unfolding clear_part when◌then◌else◌
 clear_take [] = refl
 clear_take (b ∷ s) = go (is_shown b) (clear_take s)
   where
-    go : (t : Bool) → take (length (clear_part s)) s ≡ clear_part s → take (length (if t then (b ∷ clear_part s) else [])) (b ∷ s) ≡ (if t then (b ∷ clear_part s) else [])
+    go : (t : Bool) → take (length (clear_part s)) s ≡ clear_part s → take (length (when t then (b ∷ clear_part s) else [])) (b ∷ s) ≡ (when t then (b ∷ clear_part s) else [])
     go true e = rw e
     go false e = refl
 

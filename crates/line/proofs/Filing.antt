@@ -8,7 +8,7 @@ use mathlib.Core.List.{List, [], ◌∷◌}
 use mathlib.Core.Option.{none, some}
 use native.Mathlib.Omega.{arith}
 use lib.ListN.{length}
-use Rattle.paper.specs.Byte.{bytes, if◌then◌else◌, every}
+use Rattle.paper.specs.Byte.{bytes, when◌then◌else◌, every}
 use Rattle.paper.specs.Line.{Got, got, bad, Reader, followed, give, ended, one, byte, long, control}
 use Rattle.paper.specs.Command.{is_shown, in_range, Pen, FormLine, Filing, start, finish, inform, recall, delete, Command, empty, new, keep, file, ask}
 use Rattle.paper.specs.Refusal.{too_long, control_byte, out_of_range}
@@ -146,7 +146,7 @@ Told s = Files (Leads s) (shape s)
 
 -- one that starts with `L`
 bar_told : (t : List ℕ) → Told (76 ∷ t)
-unfolding shape by_row table row these byte one followed give bytes if◌then◌else◌
+unfolding shape by_row table row these byte one followed give bytes when◌then◌else◌
 bar_told [] = strange_files _
 bar_told (b ∷ t) =
     by_letter (λ (b : ℕ). Told (76 ∷ b ∷ t)) pens b ((bar_keeps _).files t, ((bar_keeps _).files t, ((bar_keeps _).files t, tt)))
@@ -154,7 +154,7 @@ bar_told (b ∷ t) =
 
 -- one that starts with `F`
 filing_told : (t : List ℕ) → Told (70 ∷ t)
-unfolding shape by_row table row these byte one followed give bytes if◌then◌else◌ byte_at letter_of
+unfolding shape by_row table row these byte one followed give bytes when◌then◌else◌ byte_at letter_of
 filing_told [] = strange_files _
 filing_told (b ∷ t) =
     by_letter (λ (b : ℕ). Told (70 ∷ b ∷ t)) filings b (
@@ -174,7 +174,7 @@ filing_told (b ∷ t) =
 
 -- so has any other
 told : (s : List ℕ) → Told s
-unfolding shape by_row table row these byte one followed give bytes if◌then◌else◌ judged filing_read
+unfolding shape by_row table row these byte one followed give bytes when◌then◌else◌ judged filing_read
 told [] =
     λ f. by_test (λ r. filing_read r ≡ some f → Leads [] f) (in_range width empty) (command empty) (unread out_of_range) (λ _ e. some_none e refl) (λ _ e. some_none e refl)
 told (a ∷ t) =
@@ -227,7 +227,7 @@ kind_read s f k r h e l q j =
 
 -- so one with a name is what the name behind its letters says
 pub read_errand : (s : List ℕ) (errand : Errand) (name : List ℕ) (r : L.Command) → length s ≤ 256 → every is_shown s ≡ true → Leads s (filing errand name) → Gives s (name_line (filing errand) (from s 2)) r → IsRead s r
-unfolding filing letter_of kind_of filing_kind shape_by if◌then◌else◌
+unfolding filing letter_of kind_of filing_kind shape_by when◌then◌else◌
 read_errand s E.Start name r h e l j = kind_read s (start name) K.Start r h e l refl j
 read_errand s E.Recall name r h e l j = kind_read s (recall name) K.Recall r h e l refl j
 read_errand s E.Delete name r h e l j = kind_read s (delete name) K.Delete r h e l refl j

@@ -9,7 +9,7 @@ use lib.Dec.{eqb}
 use lib.ListN.{length, drop_of_length-le}
 use lib.Seq.{drop-cons}
 use borrow.Author.Tests.{eq-eqb, ne_eqb}
-use Rattle.paper.specs.Byte.{bytes, any, among, if◌then◌else◌}
+use Rattle.paper.specs.Byte.{bytes, any, among, when◌then◌else◌}
 use Rattle.paper.specs.Line.{Got, got, bad, Reader, followed, give, ended, byte, comma, part, digit, two_digits, number, string}
 use Rattle.paper.specs.Command as P
 use Rattle.paper.specs.Read.{or_else, step_of, step, value, behind, content}
@@ -66,7 +66,7 @@ step_none s at b e p m =
 
 -- a plus before a number
 pub step_up : (b n : ℕ) → b ≡ 43 → P.up n ≡ step_of b n
-unfolding step_of if◌then◌else◌
+unfolding step_of when◌then◌else◌
 step_up b zero e = refl
 step_up b (suc n) e = rw e
 
@@ -77,7 +77,7 @@ step_zero b n e = rw e
 
 -- a minus before any other number
 pub step_down : (b n : ℕ) → b ≡ 45 → (n ≡ 0 → ⊥) → P.down n ≡ step_of b n
-unfolding step_of if◌then◌else◌
+unfolding step_of when◌then◌else◌
 step_down b zero e h = absurd (h refl)
 step_down b (suc n) e h = rw e
 

@@ -9,7 +9,7 @@ use native.Mathlib.Decide.{ℕ_discrete}
 use lib.ListN.{length}
 use lib.Dec.{eqb}
 use borrow.Author.Tests.{ne_eqb, eqb-true}
-use Rattle.paper.specs.Byte.{bytes, if◌then◌else◌, any, among}
+use Rattle.paper.specs.Byte.{bytes, when◌then◌else◌, any, among}
 use Rattle.paper.specs.Line.{bad, followed, give, one, byte}
 use Rattle.paper.specs.Read.{Row, row, table, these, strange, by_row, shape}
 use Rattle.text.specs.Place.{byte_at, from}
@@ -56,17 +56,17 @@ letters = 70 ∷ 76 ∷ 80 ∷ 86 ∷ 67 ∷ 88 ∷ 65 ∷ 90 ∷ 81 ∷ 63 ∷ 
 
 -- the code's answer behind `L` for any other byte: no kind
 pub bar_none : (a b : ℕ) → a ≡ 76 → Differs b pens → Unknown ≡ kind_of a b
-unfolding kind_of bar_kind if◌then◌else◌ among any
+unfolding kind_of bar_kind when◌then◌else◌ among any
 bar_none a b e d = rw e (simp (misses b pens d))
 
 -- behind `F`
 pub filing_none : (a b : ℕ) → a ≡ 70 → Differs b filings → Unknown ≡ kind_of a b
-unfolding kind_of filing_kind if◌then◌else◌ among any
+unfolding kind_of filing_kind when◌then◌else◌ among any
 filing_none a b e d = rw e (simp (misses b filings d))
 
 -- and first
 pub letter_none : (a b : ℕ) → Differs a letters → Unknown ≡ kind_of a b
-unfolding kind_of if◌then◌else◌ among any
+unfolding kind_of when◌then◌else◌ among any
 letter_none a b d = simp (misses a letters d)
 
 -- a row whose letters the line lacks is passed over
@@ -81,17 +81,17 @@ runs_out s = refl
 
 -- no row has another byte behind `L`
 pub bar_strange : (b : ℕ) (t : List ℕ) → Differs b pens → by_row table (76 ∷ b ∷ t) ≡ strange
-unfolding table row these byte one followed give bytes if◌then◌else◌ among any
+unfolding table row these byte one followed give bytes when◌then◌else◌ among any
 bar_strange b t d = simp (skips, runs_out, misses b pens d)
 
 -- nor behind `F`
 pub filing_strange : (b : ℕ) (t : List ℕ) → Differs b filings → by_row table (70 ∷ b ∷ t) ≡ strange
-unfolding table row these byte one followed give bytes if◌then◌else◌ among any
+unfolding table row these byte one followed give bytes when◌then◌else◌ among any
 filing_strange b t d = simp (skips, runs_out, misses b filings d)
 
 -- nor first
 pub letter_strange : (a : ℕ) (t : List ℕ) → Differs a letters → by_row table (a ∷ t) ≡ strange
-unfolding table row these byte one followed give bytes if◌then◌else◌ among any
+unfolding table row these byte one followed give bytes when◌then◌else◌ among any
 letter_strange a t d = simp (skips, runs_out, misses a letters d)
 
 -- a line and the kind that its first two bytes tell have the same shape
@@ -100,7 +100,7 @@ Alike s = shape s ≡ shape_by s (kind_of (byte_at s 0) (byte_at s 1))
 
 -- a line that starts with `L`
 bar_alike : (t : List ℕ) → Alike (76 ∷ t)
-unfolding shape by_row table row these byte one followed give bytes if◌then◌else◌ shape_by kind_of bar_kind byte_at from
+unfolding shape by_row table row these byte one followed give bytes when◌then◌else◌ shape_by kind_of bar_kind byte_at from
 bar_alike [] = refl
 bar_alike (b ∷ t) =
     by_letter (λ (b : ℕ). Alike (76 ∷ b ∷ t)) pens b (refl, (refl, (refl, tt)))
@@ -108,7 +108,7 @@ bar_alike (b ∷ t) =
 
 -- one that starts with `F`
 filing_alike : (t : List ℕ) → Alike (70 ∷ t)
-unfolding shape by_row table row these byte one followed give bytes if◌then◌else◌ shape_by kind_of filing_kind byte_at from
+unfolding shape by_row table row these byte one followed give bytes when◌then◌else◌ shape_by kind_of filing_kind byte_at from
 filing_alike [] = refl
 filing_alike (b ∷ t) =
     by_letter (λ (b : ℕ). Alike (70 ∷ b ∷ t)) filings b (refl, (refl, (refl, (refl, (refl, tt)))))
@@ -116,7 +116,7 @@ filing_alike (b ∷ t) =
 
 -- the row that a line's letters lead to is the one of its kind
 pub by_kind : (s : List ℕ) → 0 < length s → shape s ≡ shape_by s (kind_of (byte_at s 0) (byte_at s 1))
-unfolding shape by_row table row these byte one followed give bytes if◌then◌else◌ shape_by kind_of byte_at from
+unfolding shape by_row table row these byte one followed give bytes when◌then◌else◌ shape_by kind_of byte_at from
 by_kind [] h = absurd (omega arith)
 by_kind (a ∷ t) h =
     by_letter (λ (a : ℕ). Alike (a ∷ t)) letters a

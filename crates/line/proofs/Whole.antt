@@ -6,7 +6,7 @@ use Prim.Native.Nat.{ℕ, ◌≤◌, ◌<◌}
 use native.Mathlib.Omega.{arith}
 use lib.ListN.{length}
 use borrow.Author.Tests.{lt-ltb, le-ltb}
-use Rattle.paper.specs.Byte.{if◌then◌else◌, every}
+use Rattle.paper.specs.Byte.{when◌then◌else◌, every}
 use Rattle.paper.specs.Line.{long, control}
 use Rattle.paper.specs.Command as P
 use Rattle.paper.specs.Command.{is_shown, in_range, ranges, all_of}
@@ -71,7 +71,7 @@ shape_empty (b ∷ s) h = absurd (omega arith)
 
 -- the empty line
 pub shown_empty : (s : List ℕ) → length s < 1 → Judges s (shape s) Empty
-unfolding view_of Stand judged in_range ranges all_of if◌then◌else◌
+unfolding view_of Stand judged in_range ranges all_of when◌then◌else◌
 shown_empty s h = record { view = rw (shape_empty s h); stand = tt }
 
 -- a line of a kind

@@ -1,5 +1,6 @@
 -- The kind of a line by its first two bytes, and what the rest of the line must be for each kind.
-use Rattle.paper.specs.Byte.{ℕ, List, eqb, if◌then◌else◌}
+use Rattle.std.specs.Prelude.{ℕ, List, eqb}
+use Rattle.paper.specs.Byte.{when◌then◌else◌}
 use Rattle.paper.specs.Line.{ended}
 use Rattle.paper.specs.Command as P
 use Rattle.paper.specs.Read.{Shape, strange, body_shape, size_line, direction_line, text_line, bar_line, frame_line, counter_line, variable_line, name_line, print_line}
@@ -9,32 +10,32 @@ use Rattle.line.specs.declared.kind.Kind.TheVariants.{New, Finish, Inform, Ask, 
 
 -- the second letter of an `L` line
 unfoldable pub bar_kind : ℕ → Kind
-bar_kind b = if eqb b 79 then Black else if eqb b 69 then Flip else if eqb b 87 then White else Unknown
+bar_kind b = when eqb b 79 then Black else when eqb b 69 then Flip else when eqb b 87 then White else Unknown
 
 -- the second letter of an `F` line
 unfoldable pub filing_kind : ℕ → Kind
 filing_kind b =
-    if eqb b 69 then Finish
-    else if eqb b 73 then Inform
-    else if eqb b 83 then Start
-    else if eqb b 82 then Recall
-    else if eqb b 75 then Delete
+    when eqb b 69 then Finish
+    else when eqb b 73 then Inform
+    else when eqb b 83 then Start
+    else when eqb b 82 then Recall
+    else when eqb b 75 then Delete
     else Unknown
 
 -- the first letter, and for `L` and `F` the second
 unfoldable pub kind_of : ℕ → ℕ → Kind
 kind_of a b =
-    if eqb a 78 then New
-    else if eqb a 63 then Ask
-    else if eqb a 81 then Size
-    else if eqb a 90 then Direction
-    else if eqb a 65 then Text
-    else if eqb a 88 then Frame
-    else if eqb a 67 then Counting
-    else if eqb a 86 then Varying
-    else if eqb a 80 then Print
-    else if eqb a 76 then bar_kind b
-    else if eqb a 70 then filing_kind b
+    when eqb a 78 then New
+    else when eqb a 63 then Ask
+    else when eqb a 81 then Size
+    else when eqb a 90 then Direction
+    else when eqb a 65 then Text
+    else when eqb a 88 then Frame
+    else when eqb a 67 then Counting
+    else when eqb a 86 then Varying
+    else when eqb a 80 then Print
+    else when eqb a 76 then bar_kind b
+    else when eqb a 70 then filing_kind b
     else Unknown
 
 -- the shape of a line of a kind: what the paper's row reads behind the leading letters

@@ -34,7 +34,6 @@ use Rattle.session.specs.declared.change.Change.{Change}
 use Rattle.session.specs.declared.state.Held.{Held}
 use Rattle.session.specs.declared.state.Turn.{Turn}
 use Rattle.session.specs.declared.state.Mode.TheVariants as M
-use Rattle.session.specs.contracts.state.Mode as State
 use Rattle.session.proofs.Held.{Tagged, wrong, does_done, does_refuse}
 
 -- `N` goes to Idle from every state in which no form is collected

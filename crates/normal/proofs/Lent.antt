@@ -8,7 +8,7 @@ use lib.ListN.{length, take}
 use lib.Seq.{length-take-le}
 use lib.Dec.{leb}
 use borrow.Author.Tests.{le-leb, lt-leb}
-use Rattle.paper.specs.Byte.{if◌then◌else◌}
+use Rattle.paper.specs.Byte.{when◌then◌else◌}
 use Rattle.paper.specs.Command as P
 use Rattle.paper.specs.Read as Read
 use Rattle.paper.specs.Write as Write
@@ -21,7 +21,6 @@ use Rattle.command.specs.Answer.{Reports, Meets}
 use Rattle.command.specs.declared.Refusal.{Refusal}
 use Rattle.command.specs.declared.Refusal.TheVariants as W
 use Rattle.command.specs.declared.Command.{Command}
-use Rattle.command.specs.declared.Answer.{Answer}
 use Rattle.command.specs.declared.Answer.TheVariants as A
 use Rattle.normal.specs.Normal.{record_held, readable, reading_text, write_reading, write_of, WritesLine}
 
@@ -32,7 +31,7 @@ reading_out room (Read.command c) e = if_false (P.in_range width c) _ _ e
 reading_out room (Read.unread r) e = refl
 
 -- writing one that some line has: by the length of its normal form
-reading_in : (room : ℕ) (r : Read.Reading) → readable r ≡ true → write_reading room r ≡ (if leb (length (reading_text r)) room then R.accepted (reading_text r) else R.refused R.too_short)
+reading_in : (room : ℕ) (r : Read.Reading) → readable r ≡ true → write_reading room r ≡ (when leb (length (reading_text r)) room then R.accepted (reading_text r) else R.refused R.too_short)
 unfolding readable reading_text write_reading Write.write
 reading_in room (Read.command c) e = if_true (P.in_range width c) _ _ e
 reading_in room (Read.unread r) e = absurd (false≢true e)
@@ -44,10 +43,10 @@ refused_meets a old why e = rw e (record { reports = refl; buffer = refl })
 
 -- the code's answer for a record that no line reads as
 pub meets_out : (s : List ℕ) (c : Command) (old : List ℕ) (t : Bool) → t ≡ (record_held s c && readable (view_of s c)) → t ≡ false → WritesLine s c old old (A.Refused W.OutOfRange)
-unfolding write_of refusal_of if◌then◌else◌
+unfolding write_of refusal_of when◌then◌else◌
 meets_out s c old t p e = record { meets = refused_meets (write_of s (length old) c) old W.OutOfRange (go (record_held s c) (sym p ∙ e)) }
   where
-    go : (h : Bool) → (h && readable (view_of s c)) ≡ false → (if h then write_reading (length old) (view_of s c) else R.refused R.out_of_range) ≡ R.refused R.out_of_range
+    go : (h : Bool) → (h && readable (view_of s c)) ≡ false → (when h then write_reading (length old) (view_of s c) else R.refused R.out_of_range) ≡ R.refused R.out_of_range
     go true q = reading_out (length old) (view_of s c) q
     go false q = refl
 
@@ -60,7 +59,7 @@ pub told_readable : (s : List ℕ) (c : Command) (t : Bool) → t ≡ (record_he
 told_readable s c t p e = and_right (record_held s c) (readable (view_of s c)) (sym p ∙ e)
 
 -- what is written of such a record
-write_in : (s : List ℕ) (c : Command) (room : ℕ) (t : Bool) → t ≡ (record_held s c && readable (view_of s c)) → t ≡ true → write_of s room c ≡ (if leb (length (reading_text (view_of s c))) room then R.accepted (reading_text (view_of s c)) else R.refused R.too_short)
+write_in : (s : List ℕ) (c : Command) (room : ℕ) (t : Bool) → t ≡ (record_held s c && readable (view_of s c)) → t ≡ true → write_of s room c ≡ (when leb (length (reading_text (view_of s c))) room then R.accepted (reading_text (view_of s c)) else R.refused R.too_short)
 unfolding write_of
 write_in s c room t p e = if_true (record_held s c) _ _ (told_record s c t p e) ∙ reading_in room (view_of s c) (told_readable s c t p e)
 

@@ -1,6 +1,6 @@
 -- Writing a record of a line: its normal form, whether some line reads as it, and what the writer answers.
 use Rattle.std.specs.Prelude.{ℕ, ◌+◌, ◌≤◌, Bool, true, false, ◌&&◌, List, [], ◌∷◌, length, eqb}
-use Rattle.paper.specs.Byte.{if◌then◌else◌, decimal, every}
+use Rattle.paper.specs.Byte.{when◌then◌else◌, decimal, every}
 use Rattle.paper.specs.Line.{plain, quoted}
 use Rattle.paper.specs.Command as P
 use Rattle.paper.specs.Read as Read
@@ -100,7 +100,7 @@ write_reading room (Read.unread r) = R.refused R.out_of_range
 
 -- writing a record with its source: 6 where no line reads as it, else the paper's writing of its reading
 unfoldable pub write_of : List ℕ → ℕ → Command → R.Answer
-write_of s room c = if record_held s c then write_reading room (view_of s c) else R.refused R.out_of_range
+write_of s room c = when record_held s c then write_reading room (view_of s c) else R.refused R.out_of_range
 
 -- `write_line`: that answer, with the lent buffer
 pub record WritesLine (s : List ℕ) (c : Command) (old new : List ℕ) (r : Answer) : Type 0 where

@@ -10,7 +10,7 @@ use native.Mathlib.Omega.{arith}
 use lib.ListN.{length}
 use lib.Dec.{leb, eqb}
 use borrow.Author.Tests.{eqb-true, eq-eqb, ne_eqb, le-ltb}
-use Rattle.paper.specs.Byte.{if◌then◌else◌}
+use Rattle.paper.specs.Byte.{when◌then◌else◌}
 use Rattle.paper.specs.Command.{FormLine}
 use Rattle.paper.specs.Refusal.{Refusal, Answer, accepted, refused}
 use Rattle.paper.specs.Form.{Form, is_some}
@@ -27,15 +27,15 @@ use Rattle.paper.proofs.Silent.{not_own, line_elsewhere}
 
 -- the sets of a diary, a call at a time
 sets_other : (width t : ℕ) (c : Class) (q : Request) (qs : List Request) → holds_form (c.tablet t).session ≡ true → is_for t (reply_to width c q).whose ≡ false → sets_in (diary width t c (q ∷ qs)) ≡ sets_in (diary width t (reply_to width c q).next qs)
-unfolding diary if◌then◌else◌
+unfolding diary when◌then◌else◌
 sets_other width t c q qs h n = rw (h, n)
 
 sets_mine : (width t : ℕ) (c : Class) (q : Request) (qs : List Request) → holds_form (c.tablet t).session ≡ true → is_for t (reply_to width c q).whose ≡ true → sets_in (diary width t c (q ∷ qs)) ≡ set_of_call (call_of q) (reply_to width c q).answer ++ sets_in (diary width t (reply_to width c q).next qs)
-unfolding diary if◌then◌else◌ sets_in
+unfolding diary when◌then◌else◌ sets_in
 sets_mine width t c q qs h y = rw (h, y)
 
 sets_over : (width t : ℕ) (c : Class) (qs : List Request) → holds_form (c.tablet t).session ≡ false → sets_in (diary width t c qs) ≡ []
-unfolding diary sets_in if◌then◌else◌
+unfolding diary sets_in when◌then◌else◌
 sets_over width t c [] n = refl
 sets_over width t c (q ∷ qs) n = rw n
 

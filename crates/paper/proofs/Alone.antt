@@ -7,7 +7,7 @@ use mathlib.Core.Option.{Option, none, some}
 use Prim.Native.Nat.{ℕ, ◌<◌}
 use lib.Dec.{eqb}
 use borrow.Author.Tests.{eqb-true, lt-ltb}
-use Rattle.paper.specs.Byte.{if◌then◌else◌}
+use Rattle.paper.specs.Byte.{when◌then◌else◌}
 use Rattle.paper.specs.Command.{Filing}
 use Rattle.paper.specs.Refusal.{not_printing, refused}
 use Rattle.paper.specs.Form.{Form, is_some}
@@ -75,7 +75,7 @@ step_at_desk t last c f o a = record {
 
 -- so is every call
 pub call_at_desk : (width t : ℕ) (c : Class) (x : Call) → Alone t c → AtDesk t (called width (desk c t) x) (reply_to width c (request_of t x))
-unfolding reply_to request_of called hear_from hear_of hear_unless thirty if◌then◌else◌ take_next serve denied take_set desk outcome
+unfolding reply_to request_of called hear_from hear_of hear_unless thirty when◌then◌else◌ take_next serve denied take_set desk outcome
 call_at_desk width t c (line room s) a =
     rw (lt-ltb t 30 a.within, alone_free t c (filing_of width (c.tablet t).session s) a) (step_at_desk t _ c _ _ a)
 call_at_desk width t c (taking room) a =

@@ -9,7 +9,7 @@ use native.Mathlib.Omega.{arith}
 use lib.ListN.{length, drop, length-append, get_or}
 use lib.Dec.{leb, eqb}
 use borrow.Author.Tests.{ne_eqb}
-use Rattle.paper.specs.Byte.{if◌then◌else◌}
+use Rattle.paper.specs.Byte.{when◌then◌else◌}
 use Rattle.paper.specs.Line.{kept, long, control}
 use Rattle.paper.specs.Command.{Define, FormLine, Command, file, recall, ask, print}
 use Rattle.paper.specs.Refusal.{accepted}
@@ -44,7 +44,7 @@ data Serves (width : ℕ) : Session → List Need → List (List ℕ) → Type 0
 
 -- a take that leaves the session as it was gives no set
 idle_take : (room : ℕ) (st : Session) → (taken room [] st).next.session ≡ st → set_of_call (taking room) (taken room [] st).answer ≡ []
-unfolding taken replied outcome set_of_call after_set if◌then◌else◌
+unfolding taken replied outcome set_of_call after_set when◌then◌else◌
 idle_take room idle e = refl
 idle_take room (collecting name ls) e = refl
 idle_take room spoiled e = refl
@@ -130,7 +130,7 @@ module _ (width : ℕ) (b : Bench) (name : List ℕ) (ls : List FormLine) (given
 
   -- the session with so many sets out
   unfoldable out : ℕ → Session
-  out i = if eqb i n then idle else printing ls given n c i
+  out i = when eqb i n then idle else printing ls given n c i
 
   printing_sane : (i : ℕ) → i < n → Sane width (bare (printing ls given n c i))
   unfolding bare begin

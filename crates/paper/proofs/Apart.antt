@@ -7,7 +7,7 @@ use mathlib.Core.Option.{Option, none, some}
 use Prim.Native.Nat.{ℕ, ◌<◌}
 use lib.Dec.{ltb, eqb}
 use borrow.Author.Tests.{eqb-true, eq-eqb, lt-ltb}
-use Rattle.paper.specs.Byte.{if◌then◌else◌}
+use Rattle.paper.specs.Byte.{when◌then◌else◌}
 use Rattle.paper.specs.Line.{kept}
 use Rattle.paper.specs.Command.{FormLine, Filing, file, recall}
 use Rattle.paper.specs.Refusal.{accepted}
@@ -58,12 +58,12 @@ reply_form c t last o h =
 -- where nothing is forbidden the desk decides
 pub free_reply : (width : ℕ) (c : Class) (t : ℕ) → t < 30 → (s : List ℕ) (room : ℕ) → barred c t (filing_of width (c.tablet t).session s) ≡ none
     → hear_from width room c t s ≡ reply c t c.last (filing_of width (c.tablet t).session s) (hear width room (record { forms = c.forms; session = (c.tablet t).session }) s)
-unfolding hear_from hear_of hear_unless desk thirty if◌then◌else◌
+unfolding hear_from hear_of hear_unless desk thirty when◌then◌else◌
 free_reply width c t l s room e = rw (lt-ltb t 30 l, e) refl
 
 -- a call that is not for a tablet leaves it
 pub leaves_others : (width t : ℕ) (c : Class) (q : Request) → is_for t (reply_to width c q).whose ≡ false → (reply_to width c q).next.tablet t ≡ c.tablet t
-unfolding reply_to hear_from hear_of take_next serve reply denied is_for if◌then◌else◌
+unfolding reply_to hear_from hear_of take_next serve reply denied is_for when◌then◌else◌
 leaves_others width t c (sends u room s) e =
     either (ltb u thirty) (λ y. rw y (seat_other u _ c.tablet t (rw y at e))) (λ n. rw n)
 leaves_others width t c (fetches room) e = by_turn (turn c) e
@@ -91,7 +91,7 @@ bared width t last c st x f o a e =
 
 -- a call for a tablet that holds a form open
 pub own_bared : (width t : ℕ) (c : Class) (q : Request) → holds_form (c.tablet t).session ≡ true → is_for t (reply_to width c q).whose ≡ true → Bared width t (c.tablet t).session (call_of q) (reply_to width c q)
-unfolding reply_to hear_from hear_of hear_unless take_next serve reply denied is_for if◌then◌else◌ called call_of hear take_set desk
+unfolding reply_to hear_from hear_of hear_unless take_next serve reply denied is_for when◌then◌else◌ called call_of hear take_set desk
 own_bared width t c (sends u room s) h e =
     either (ltb u thirty)
     (λ y.
@@ -144,7 +144,7 @@ own_same width st (x ∷ es) (d ∷ ds) p q e =
 -- `FR` of a stored form by a tablet that is Idle
 pub recalls : (width room : ℕ) (c : Class) (t : ℕ) (s name : List ℕ) (ls : List FormLine) → t < 30 → (c.tablet t).session ≡ idle → find name c.forms ≡ some ls → read width (kept s) ≡ command (file (recall name))
     → ((hear_from width room c t s).answer ≡ accepted []) × (((hear_from width room c t s).next.tablet t).session ≡ opened_with ls (asked ls))
-unfolding hear_from hear_of hear_unless filing_of filing_read at_rest thirty if◌then◌else◌ desk done outcome
+unfolding hear_from hear_of hear_unless filing_of filing_read at_rest thirty when◌then◌else◌ desk done outcome
 recalls width room c t s name ls l free found reads =
     let sent : filing_of width (c.tablet t).session s ≡ some (recall name) = rw (free, reads) in
     let step = recall_opens width room (desk c t) s name ls free found reads in

@@ -7,7 +7,7 @@ use mathlib.Core.Option.{some, some-ne-none}
 use Prim.Native.Nat.{ℕ, suc, ◌-◌}
 use lib.ListN.{length}
 use lib.Dec.{leb, eqb}
-use Rattle.paper.specs.Byte.{if◌then◌else◌}
+use Rattle.paper.specs.Byte.{when◌then◌else◌}
 use Rattle.paper.specs.Line.{long, control}
 use Rattle.paper.specs.Command.{Define, FormLine, empty, new, keep, file, ask, print}
 use Rattle.paper.specs.Refusal.{Answer, accepted}
@@ -36,8 +36,8 @@ unfolding open_lines collects
 lets_go a = record { answer = a; next = idle; is = λ fs. refl; holds_on = λ ls p. absurd (some-ne-none ls (sym p)); no_draft = refl }
 
 -- one of two steps
-chosen : {old : Session} {f g : List Form → Outcome} (t : Bool) → (t ≡ true → Aside old f) → (t ≡ false → Aside old g) → Aside old (λ fs. if t then f fs else g fs)
-unfolding if◌then◌else◌
+chosen : {old : Session} {f g : List Form → Outcome} (t : Bool) → (t ≡ true → Aside old f) → (t ≡ false → Aside old g) → Aside old (λ fs. when t then f fs else g fs)
+unfolding when◌then◌else◌
 chosen true yes' no' = yes' refl
 chosen false yes' no' = no' refl
 
@@ -112,7 +112,7 @@ heard_roomless width room fs (printing ls given n c i) s h = refl
 
 -- a take
 pub taken_aside : (room : ℕ) (st : Session) → holds_form st ≡ true → Aside st (λ fs. taken room fs st)
-unfolding holds_form open_lines is_some taken replied after_set collects if◌then◌else◌
+unfolding holds_form open_lines is_some taken replied after_set collects when◌then◌else◌
 taken_aside room idle h = absurd (false≢true h)
 taken_aside room (collecting name ls) h = absurd (false≢true h)
 taken_aside room spoiled h = absurd (false≢true h)
@@ -121,7 +121,7 @@ taken_aside room (answering ls given) h = still _ _ refl refl
 taken_aside room (ready ls given) h = still _ _ refl refl
 taken_aside room (printing ls given n c i) h = chosen (leb (length (set_of ls given c i)) room) (λ y. out (eqb (suc i) n)) (λ m. still _ _ refl refl)
   where
-    out : (t : Bool) → Aside (printing ls given n c i) (λ fs. outcome (accepted (set_of ls given c i)) fs (if t then idle else printing ls given n c (suc i)))
+    out : (t : Bool) → Aside (printing ls given n c i) (λ fs. outcome (accepted (set_of ls given c i)) fs (when t then idle else printing ls given n c (suc i)))
     out true = lets_go _
     out false = still _ _ refl refl
 

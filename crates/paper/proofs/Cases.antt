@@ -3,7 +3,7 @@ use Prim.Native.Nat.{ℕ}
 use Prim.Native.String.{String, ◌++◌}
 use mathlib.Core.Path.{◌≡◌, refl}
 use mathlib.Core.List.{List, []}
-use Rattle.paper.specs.Byte.{bytes, if◌then◌else◌, between, every, any, among, same, decimal_within, decimal}
+use Rattle.paper.specs.Byte.{bytes, when◌then◌else◌, between, every, any, among, same, decimal_within, decimal}
 use Rattle.paper.specs.Line.{is_dropped, kept, infront, cut, long, control, followed, give, ended, one, byte, comma, part, is_digit, digit, two_digits, more_digits, number, letter, within, string, escape, quoted, plain}
 use Rattle.paper.specs.Command.{is_shown, texts, value_range, content_ranges, setting_ranges, draw_ranges, step_range, define_ranges, is_name_byte, is_name, star, filing_ranges, ranges, all, all_of, in_range, Command, keep, print, draw, bar, put, black, text}
 use Rattle.paper.specs.Refusal.{figures, unknown, malformed, out_of_range}
@@ -20,7 +20,7 @@ narrow = 812
 
 -- what a line reads as
 unfoldable pub reads : String → Reading
-unfolding bytes if◌then◌else◌ between every any among same decimal_within decimal is_dropped kept infront cut long control followed give ended one byte comma part is_digit digit two_digits more_digits number letter within string escape quoted plain is_shown texts value_range content_ranges setting_ranges draw_ranges step_range define_ranges is_name_byte is_name star filing_ranges ranges all all_of in_range or_else font step_of step value behind content setting size_line direction_line text_line bar_line frame_line counter_line variable_line name_line copies_of print_line row table these body_shape by_row shape judged read
+unfolding bytes when◌then◌else◌ between every any among same decimal_within decimal is_dropped kept infront cut long control followed give ended one byte comma part is_digit digit two_digits more_digits number letter within string escape quoted plain is_shown texts value_range content_ranges setting_ranges draw_ranges step_range define_ranges is_name_byte is_name star filing_ranges ranges all all_of in_range or_else font step_of step value behind content setting size_line direction_line text_line bar_line frame_line counter_line variable_line name_line copies_of print_line row table these body_shape by_row shape judged read
 reads s = read narrow (bytes s)
 
 -- the normal form of a command

@@ -6,7 +6,7 @@ use mathlib.Core.Option.{Option, none, some}
 use Prim.Native.Nat.{ℕ, ◌-◌}
 use lib.ListN.{length, drop}
 use lib.Dec.{leb}
-use Rattle.paper.specs.Byte.{if◌then◌else◌}
+use Rattle.paper.specs.Byte.{when◌then◌else◌}
 use Rattle.paper.specs.Line.{kept, long, control}
 use Rattle.paper.specs.Command.{Define, FormLine, Filing, start, finish, inform, recall, delete, empty, new, keep, file, ask, print}
 use Rattle.paper.specs.Refusal.{Refusal, too_long, control_byte}
@@ -27,8 +27,8 @@ module _ (fs : List Form) where
   abbrev Leaves : Session → Option Filing → Outcome → Type 0
   Leaves st f o = Changes fs st f o.next.forms o.next.session
 
-  either_leaves : (st : Session) (f : Option Filing) (t : Bool) (a b : Outcome) → Leaves st f a → Leaves st f b → Leaves st f (if t then a else b)
-  unfolding if◌then◌else◌
+  either_leaves : (st : Session) (f : Option Filing) (t : Bool) (a b : Outcome) → Leaves st f a → Leaves st f b → Leaves st f (when t then a else b)
+  unfolding when◌then◌else◌
   either_leaves st f true a b p q = p
   either_leaves st f false a b p q = q
 
@@ -139,7 +139,7 @@ module _ (fs : List Form) where
 
 -- CHANGES: the stored forms behind a line
 pub line_changes : (width room : ℕ) (fs : List Form) (st : Session) (s : List ℕ) → Changes fs st (filing_of width st s) (hear width room (record { forms = fs; session = st }) s).next.forms (hear width room (record { forms = fs; session = st }) s).next.session
-unfolding hear heard filing_of at_rest if◌then◌else◌
+unfolding hear heard filing_of at_rest when◌then◌else◌
 line_changes width room fs idle s = idle_leaves fs room (read width (kept s))
 line_changes width room fs (collecting name ls) s = collecting_leaves fs _ name ls (read width (kept s))
 line_changes width room fs spoiled s = spoiled_leaves fs _ (read width (kept s))

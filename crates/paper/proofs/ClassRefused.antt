@@ -7,7 +7,7 @@ use mathlib.Core.Option.{Option, none, some}
 use Prim.Native.Nat.{ℕ, ◌<◌}
 use lib.Dec.{ltb, eqb}
 use borrow.Author.Tests.{eqb-true, lt-ltb}
-use Rattle.paper.specs.Byte.{if◌then◌else◌}
+use Rattle.paper.specs.Byte.{when◌then◌else◌}
 use Rattle.paper.specs.Command.{Filing}
 use Rattle.paper.specs.Refusal.{Refusal, no_tablet, refused}
 use Rattle.paper.specs.Bench.{Session, idle, collecting, spoiled, opened, answering, ready, printing, Bench, Outcome, outcome, refuse, hear, take_set}
@@ -41,7 +41,7 @@ step_untouched c t f o r e = record {
 
 -- a refused line of one of the tablets
 pub line_untouched : (width room : ℕ) (c : Class) (t : ℕ) (s : List ℕ) (r : Refusal) → t < 30 → (hear_from width room c t s).answer ≡ refused r → Untouched c t r (hear_from width room c t s).next
-unfolding hear_from hear_of hear_unless thirty if◌then◌else◌ reply desk refuse outcome left_by
+unfolding hear_from hear_of hear_unless thirty when◌then◌else◌ reply desk refuse outcome left_by
 line_untouched width room c t s r l e =
     rw (lt-ltb t 30 l) (by_bar (barred c t f) refl (rw (lt-ltb t 30 l) at e))
   where
@@ -93,7 +93,7 @@ home_files width (printing ls given n c i) = refl
 
 -- HOME: from every state a single line of its own leads a tablet to Idle
 pub class_home : (width room : ℕ) (c : Class) (t : ℕ) → t < 30 → ((hear_from width room c t (way_home (c.tablet t).session)).next.tablet t).session ≡ idle
-unfolding hear_from hear_of hear_unless thirty if◌then◌else◌ desk
+unfolding hear_from hear_of hear_unless thirty when◌then◌else◌ desk
 class_home width room c t l =
     rw (lt-ltb t 30 l, home_files width (c.tablet t).session, barred_none c t)
     (reply_session c t c.last none _ ∙ leads_home width room (desk c t))

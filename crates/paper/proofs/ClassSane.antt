@@ -8,7 +8,7 @@ use Prim.Native.Nat.{ℕ, ◌<◌}
 use native.Mathlib.Omega.{arith}
 use lib.Dec.{ltb, eqb}
 use borrow.Author.Tests.{eqb-true, eq-eqb, ltb-true}
-use Rattle.paper.specs.Byte.{if◌then◌else◌}
+use Rattle.paper.specs.Byte.{when◌then◌else◌}
 use Rattle.paper.specs.Command.{FormLine, Filing}
 use Rattle.paper.specs.Refusal.{Refusal, Answer, accepted, refused}
 use Rattle.paper.specs.Form.{Form, is_some, find}
@@ -129,7 +129,7 @@ module _ (width : ℕ) (c : Class) (t last : ℕ) (f : Option Filing) (o : Outco
 
 -- a forbidden line finds its sender Idle, and leaves all as it was
 barred_same : (c : Class) (t last : ℕ) (f : Option Filing) (r : Refusal) (fs : List Form) (st : Session) → st ≡ idle → (reply c t last f (refuse r fs st)).next ≡ (reply c t last none (outcome (refused r) fs idle)).next
-unfolding reply refuse outcome after_refusal tablet_of holds_form open_lines is_some if◌then◌else◌
+unfolding reply refuse outcome after_refusal tablet_of holds_form open_lines is_some when◌then◌else◌
 barred_same c t last f r fs st e = rw e
 
 -- a line

@@ -7,7 +7,7 @@ use Prim.Native.Nat.{ℕ, zero, suc, ◌+◌, ◌≤◌, ◌<◌}
 use native.Mathlib.Omega.{arith}
 use lib.Dec.{eqb, ltb}
 use borrow.Author.Tests.{eqb-true, eqb-false, ne_eqb, ltb-true, ltb-false}
-use Rattle.paper.specs.Byte.{if◌then◌else◌}
+use Rattle.paper.specs.Byte.{when◌then◌else◌}
 use Rattle.paper.specs.Command.{Filing}
 use Rattle.paper.specs.Bench.{Session, Outcome}
 use Rattle.paper.specs.Class.{Tablet, Class, thirty, prints, seat, tablet_of, reply, turn, count_below, printers}
@@ -17,7 +17,7 @@ use Rattle.paper.proofs.Turn.{turn_comes, turn_passing, first_none}
 
 -- one that passes is counted
 count_one : (n : ℕ) (test : ℕ → Bool) (k : ℕ) → k < n → test k ≡ true → 1 ≤ count_below n test
-unfolding count_below if◌then◌else◌
+unfolding count_below when◌then◌else◌
 count_one zero test k l e = absurd (omega arith)
 count_one (suc n) test k l e =
     either (test n)
@@ -26,7 +26,7 @@ count_one (suc n) test k l e =
 
 -- and two are two
 count_two : (n : ℕ) (test : ℕ → Bool) (j k : ℕ) → j < k → k < n → test j ≡ true → test k ≡ true → 2 ≤ count_below n test
-unfolding count_below if◌then◌else◌
+unfolding count_below when◌then◌else◌
 count_two zero test j k a l p q = absurd (omega arith)
 count_two (suc n) test j k a l p q =
     either (test n)
@@ -76,16 +76,16 @@ count_alike zero p q e = refl
 count_alike (suc n) p q e = rw (e n (omega arith), count_alike n p q (λ k l. e k (omega arith)))
 
 -- the last of those counted is another
-last_other : (n : ℕ) (a b : Bool) → (if a then suc n else n) + one_if b ≡ (if b then suc n else n) + one_if a
-unfolding if◌then◌else◌ one_if
+last_other : (n : ℕ) (a b : Bool) → (when a then suc n else n) + one_if b ≡ (when b then suc n else n) + one_if a
+unfolding when◌then◌else◌ one_if
 last_other n true true = refl
 last_other n true false = omega arith
 last_other n false true = omega arith
 last_other n false false = refl
 
 -- the last of those counted is the same
-last_same : (b : Bool) (m n a z : ℕ) → m + a ≡ n + z → (if b then suc m else m) + a ≡ (if b then suc n else n) + z
-unfolding if◌then◌else◌
+last_same : (b : Bool) (m n a z : ℕ) → m + a ≡ n + z → (when b then suc m else m) + a ≡ (when b then suc n else n) + z
+unfolding when◌then◌else◌
 last_same true m n a z e = omega arith
 last_same false m n a z e = e
 

@@ -8,7 +8,7 @@ use mathlib.Core.Option.{Option, none, some, some-injective, some-ne-none}
 use native.Mathlib.Omega.{arith}
 use lib.ListN.{length, length-append}
 use borrow.Author.Tests.{leb-true, le-leb}
-use Rattle.paper.specs.Byte.{if◌then◌else◌}
+use Rattle.paper.specs.Byte.{when◌then◌else◌}
 use Rattle.paper.specs.Command.{Value, Content, text, shown, joined, Draw, size, direction, put, bar, frame, Define, counting, varying, FormLine, draw, define, texts, content_ranges, setting_ranges, draw_ranges, define_ranges, ranges, all, all_of, in_range}
 use Rattle.paper.specs.Form.{asked, value_of, len_of, same_value, defined, is_some, room_for, content_sound, draw_sound, value_sound, in_place, rules, first_broken}
 use Rattle.paper.specs.Set.{all_hold, value_in, filled, placed, drawn}
@@ -35,7 +35,7 @@ asked_cons above (define d) ls = sym (append_assoc above (d ∷ []) (asked ls))
 
 -- definitions further down leave a value's definition as it is: the first wins
 pub defined_more : (v : Value) (above more : List Define) (d : Define) → defined v above ≡ some d → defined v (above ++ more) ≡ some d
-unfolding defined if◌then◌else◌
+unfolding defined when◌then◌else◌
 defined_more v [] more d e = absurd (some-ne-none _ (sym e))
 defined_more v (b ∷ above) more d e =
     either (same_value v (value_of b)) (λ y. rw y (rw y at e)) (λ n. rw n (defined_more v above more d (rw n at e)))
@@ -48,7 +48,7 @@ len_range (varying n len letter prompt) h = omega (tests, h.1.0.1.0)
 
 -- and so has each definition of a form in range
 defined_len : (width : ℕ) (ls : List FormLine) (v : Value) (d : Define) → all_in width ls ≡ true → defined v (asked ls) ≡ some d → len_of d ≤ 99
-unfolding all_in asked defined in_range ranges if◌then◌else◌
+unfolding all_in asked defined in_range ranges when◌then◌else◌
 defined_len width [] v d e f = absurd (some-ne-none _ (sym f))
 defined_len width (draw b ∷ ls) v d e f = defined_len width ls v d (and_right (all_of (draw_ranges width b)) _ e) f
 defined_len width (define b ∷ ls) v d e f =

@@ -8,7 +8,7 @@ use mathlib.Core.Option.{Option, none, some}
 use native.Mathlib.Omega.{arith}
 use lib.Dec.{ltb, eqb}
 use borrow.Author.Tests.{eq-eqb, eqb-true, ltb-true, ltb-false}
-use Rattle.paper.specs.Byte.{bytes, if◌then◌else◌}
+use Rattle.paper.specs.Byte.{bytes, when◌then◌else◌}
 use Rattle.paper.specs.Line.{is_dropped, kept, long, control}
 use Rattle.paper.specs.Command.{Filing, finish}
 use Rattle.paper.specs.Refusal.{Answer, accepted, refused}
@@ -30,7 +30,7 @@ use Rattle.paper.proofs.Turn.{Passing, turn_passing}
 
 -- 01H is kept
 kept_one : kept (1 ∷ []) ≡ 1 ∷ []
-unfolding kept is_dropped if◌then◌else◌
+unfolding kept is_dropped when◌then◌else◌
 kept_one = refl
 
 -- and is a control byte of the line
@@ -70,7 +70,7 @@ behind_finish (ready ls given) = ready ls given
 behind_finish (printing ls given n c i) = printing ls given n c i
 
 pub finish_hears : (width room : ℕ) (fs : List Form) (st : Session) → hear width room (record { forms = fs; session = after_refusal st }) (bytes "FE") ≡ outcome (refused (why_finish st)) fs (behind_finish st)
-unfolding hear heard obeyed after_refusal refuse outcome in_idle filed in_spoiled in_opened in_ready in_printing on_finish why_finish collects if◌then◌else◌ behind_finish ran
+unfolding hear heard obeyed after_refusal refuse outcome in_idle filed in_spoiled in_opened in_ready in_printing on_finish why_finish collects when◌then◌else◌ behind_finish ran
 finish_hears width room fs idle = refl
 finish_hears width room fs (collecting name ls) = refl
 finish_hears width room fs spoiled = refl
@@ -197,7 +197,7 @@ beyond_other k u m l = either (eqb k u) (λ y. absurd (omega (arith, eqb-true k 
 
 -- no call is for it
 beyond_whose : (width k : ℕ) (c : Class) (q : Request) → ltb k 30 ≡ false → is_for k (reply_to width c q).whose ≡ false
-unfolding reply_to hear_from hear_of take_next serve reply denied is_for thirty if◌then◌else◌
+unfolding reply_to hear_from hear_of take_next serve reply denied is_for thirty when◌then◌else◌
 beyond_whose width k c (sends u room s) m = either (ltb u 30) (λ y. rw y (beyond_other k u m (ltb-true u 30 y))) (λ n. rw n)
 beyond_whose width k c (fetches room) m = by_turn (turn c) (turn_passing c)
   where

@@ -7,7 +7,7 @@ use mathlib.Core.List.{List, [], ◌∷◌}
 use mathlib.Core.Option.{Option, none, some}
 use lib.Dec.{eqb}
 use borrow.Author.Tests.{eq-eqb, eqb-true}
-use Rattle.paper.specs.Byte.{bytes, if◌then◌else◌}
+use Rattle.paper.specs.Byte.{bytes, when◌then◌else◌}
 use Rattle.paper.specs.Command.{FormLine}
 use Rattle.paper.specs.Form.{Form, is_some}
 use Rattle.paper.specs.Bench.{Session, idle, collecting, spoiled, opened, answering, ready, printing, Outcome, outcome, replied, after_refusal, after_set, taken, take_set}
@@ -77,7 +77,7 @@ second_again (printing ls given n c i) = refl
 
 -- and behind the third it is Idle
 third_stays : (room : ℕ) (c : Class) (t : ℕ) → c.tablet t ≡ at_idle → tablet_of (take_set room (desk c t)).next.session (c.tablet t).form ≡ at_idle
-unfolding take_set taken outcome desk at_idle tablet_of holds_form open_lines is_some if◌then◌else◌
+unfolding take_set taken outcome desk at_idle tablet_of holds_form open_lines is_some when◌then◌else◌
 third_stays room c t e = ap (λ (x : Tablet). tablet_of (take_set room (record { forms = c.forms; session = x.session })).next.session x.form) e
 
 -- FREED AMONG OTHERS

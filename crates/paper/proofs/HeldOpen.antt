@@ -7,7 +7,7 @@ use mathlib.Core.Option.{Option, none, some}
 use Prim.Native.Nat.{ℕ, ◌<◌}
 use lib.Dec.{ltb}
 use borrow.Author.Tests.{eqb-true}
-use Rattle.paper.specs.Byte.{if◌then◌else◌}
+use Rattle.paper.specs.Byte.{when◌then◌else◌}
 use Rattle.paper.specs.Command.{FormLine}
 use Rattle.paper.specs.Form.{is_some, find}
 use Rattle.paper.specs.Bench.{Session, take_set}
@@ -28,7 +28,7 @@ lines_of st (some ls) e h = (ls, e)
 
 -- a call for a tablet that holds a form on leaves its name
 form_kept : (width t : ℕ) (c : Class) (q : Request) → holds_form (c.tablet t).session ≡ true → is_for t (reply_to width c q).whose ≡ true → holds_form ((reply_to width c q).next.tablet t).session ≡ true → ((reply_to width c q).next.tablet t).form ≡ (c.tablet t).form
-unfolding reply_to hear_from hear_of take_next serve denied is_for if◌then◌else◌ reply
+unfolding reply_to hear_from hear_of take_next serve denied is_for when◌then◌else◌ reply
 form_kept width t c (sends u room s) h e k =
     either (ltb u thirty)
     (λ y.

@@ -4,7 +4,7 @@ use Prim.Native.String.{String, ◌++◌}
 use mathlib.Core.Path.{◌≡◌, refl}
 use mathlib.Core.List.{List, [], ◌∷◌, map}
 use mathlib.Core.Option.{Option, none, some}
-use Rattle.paper.specs.Byte.{bytes, if◌then◌else◌, any}
+use Rattle.paper.specs.Byte.{bytes, when◌then◌else◌, any}
 use Rattle.paper.specs.Line.{kept, cut, control, long}
 use Rattle.paper.specs.Command.{FormLine, new, file, finish}
 use Rattle.paper.specs.Read.{command, read}
@@ -110,7 +110,7 @@ read_finish width = refl
 
 -- `FE` ends every form
 finish_home : (forms : List Form) (name : List ℕ) (ls : List FormLine) (o : Option ℕ) → (checked forms name ls o).next.session ≡ idle
-unfolding checked outcome done if◌then◌else◌
+unfolding checked outcome done when◌then◌else◌
 finish_home forms name ls (some n) = refl
 finish_home forms name ls none = either (has_room forms ls) (λ y. rw y) (λ n. rw n)
 
@@ -127,7 +127,7 @@ home_whole (printing ls given n c i) = refl
 
 -- no state is stuck: from every one a single line leads to Idle
 pub leads_home : (width room : ℕ) (b : Bench) → (hear width room b (way_home b.session)).next.session ≡ idle
-unfolding hear heard obeyed way_home in_idle in_collecting in_spoiled in_opened in_ready in_printing in_answering on_finish outcome done refuse after_refusal long control any if◌then◌else◌
+unfolding hear heard obeyed way_home in_idle in_collecting in_spoiled in_opened in_ready in_printing in_answering on_finish outcome done refuse after_refusal long control any when◌then◌else◌
 leads_home width room b = rw (home_whole b.session) (from b.session)
   where
     from : (st : Session) → (heard width room b.forms st (way_home st)).next.session ≡ idle

@@ -11,7 +11,7 @@ use lib.Dec.{leb, ltb, eqb}
 use lib.ListN.{length, take, drop, length-append, length-drop}
 use lib.Seq.{take_all}
 use borrow.Author.Tests.{leb-true, ltb-true, eqb-false}
-use Rattle.paper.specs.Byte.{if◌then◌else◌, same}
+use Rattle.paper.specs.Byte.{when◌then◌else◌, same}
 use Rattle.paper.specs.Line.{kept, long, control}
 use Rattle.paper.specs.Command.{Define, FormLine, Filing, start, finish, inform, recall, delete, Command, empty, new, keep, file, ask, print, filing_ranges, ranges, in_range, is_name, star}
 use Rattle.paper.specs.Refusal.{Refusal, too_long, control_byte, not_now, unknown, malformed, out_of_range, overfull, is_spoiled, unsound, name_taken, no_room, absent, unfit, overrun, too_short, not_printing, others_collect, no_tablet, held_open, accepted, refused}
@@ -126,7 +126,7 @@ ends_form held_open = false
 
 -- what a refused line leaves of a session
 unfoldable pub left_by : Session → Refusal → Session
-left_by session r = if ends_form r then idle else after_refusal session
+left_by session r = when ends_form r then idle else after_refusal session
 
 -- what reading a line tells: a command is in range, and a refusal ends no form
 abbrev Told : ℕ → Reading → Type 0
@@ -194,7 +194,7 @@ module _ (width room : ℕ) (fs : List Form) where
 
   -- a refused line that ends no form
   turns : (r : Refusal) (old : Session) → ends_form r ≡ false → Line width fs old (refuse r fs old)
-  unfolding refuse left_by if◌then◌else◌
+  unfolding refuse left_by when◌then◌else◌
   turns r old e = refuses r (after_refusal old) (rw e) (after_sound old)
 
   -- a line that this state refuses
@@ -217,7 +217,7 @@ module _ (width room : ℕ) (fs : List Form) where
 
   -- `FE`
   checks : (name : List ℕ) (ls : List FormLine) (o : Option ℕ) → unsound_at ls ≡ o → Line width fs (collecting name ls) (checked fs name ls o)
-  unfolding checked done left_by ends_form if◌then◌else◌
+  unfolding checked done left_by ends_form when◌then◌else◌
   checks name ls (some n) e = refuses _ _ refl (λ g. tt)
   checks name ls none e =
       by_test (Line width fs (collecting name ls)) (has_room fs ls) _ _
@@ -226,7 +226,7 @@ module _ (width room : ℕ) (fs : List Form) where
 
   -- the lines to the store, in Idle
   files : (f : Filing) → in_range width (file f) ≡ true → Line width fs idle (filed room fs f)
-  unfolding filed done left_by ends_form after_refusal if◌then◌else◌
+  unfolding filed done left_by ends_form after_refusal when◌then◌else◌
   files (start name) e =
       by_test (Line width fs idle) (is_some (find name fs)) _ _
       (λ y. turns name_taken idle refl)
@@ -275,7 +275,7 @@ module _ (width room : ℕ) (fs : List Form) where
 
   -- Collecting a spoiled form
   spoiled_good : (c : Command) → Line width fs spoiled (in_spoiled fs c)
-  unfolding in_spoiled done left_by ends_form if◌then◌else◌
+  unfolding in_spoiled done left_by ends_form when◌then◌else◌
   spoiled_good empty = accepts _ _ (λ k g. g)
   spoiled_good new = not_now_sound spoiled
   spoiled_good (keep line) = accepts _ _ (λ k g. g)

@@ -7,7 +7,7 @@ use mathlib.Core.Option.{Option, none, some, some-ne-none}
 use Prim.Native.Nat.{ℕ}
 use lib.ListN.{length}
 use lib.Dec.{leb}
-use Rattle.paper.specs.Byte.{if◌then◌else◌, same}
+use Rattle.paper.specs.Byte.{when◌then◌else◌, same}
 use Rattle.paper.specs.Line.{kept}
 use Rattle.paper.specs.Command.{Define, FormLine, Filing, start, finish, inform, recall, delete, empty, new, keep, file, ask, print, star}
 use Rattle.paper.specs.Refusal.{Answer}
@@ -47,7 +47,7 @@ drafts a next c e = record { stays = λ h ls n p. p; own = λ h ls q p. some_non
 
 -- what is found is found before others too
 find_on : (h : List ℕ) (fs gs : List Form) (ls : List FormLine) → find h fs ≡ some ls → find h (fs ++ gs) ≡ some ls
-unfolding find if◌then◌else◌
+unfolding find when◌then◌else◌
 find_on h [] gs ls e = absurd (some-ne-none ls (sym e))
 find_on h (f ∷ fs) gs ls e =
     either (same h f.name) (λ y. rw y (rw y at e)) (λ n. rw n (find_on h fs gs ls (rw n at e)))
@@ -72,7 +72,7 @@ opens_no_draft ls (d ∷ ds) = refl
 
 -- `FK`
 delete_stays : (name h : List ℕ) (fs : List Form) (ls : List FormLine) → (same name star || same name h) ≡ false → find h fs ≡ some ls → find h (deleted name fs) ≡ some ls
-unfolding deleted if◌then◌else◌
+unfolding deleted when◌then◌else◌
 delete_stays name h fs ls n e =
     let other : same h name ≡ false = same_sym h name ∙ neither_right (same name star) _ n in
     rw (neither_left (same name star) _ n) (find_without_other name h fs other ∙ e)
@@ -161,7 +161,7 @@ module _ (width room : ℕ) (fs : List Form) where
 
   -- a line
   pub hear_keeps : (st : Session) (s : List ℕ) → Keeps fs st (filing_of width st s) (hear width room (record { forms = fs; session = st }) s)
-  unfolding hear heard filing_of at_rest if◌then◌else◌ holds_form open_lines is_some
+  unfolding hear heard filing_of at_rest when◌then◌else◌ holds_form open_lines is_some
   hear_keeps idle s = idle_keeps (read width (kept s))
   hear_keeps (collecting name ls) s = collecting_keeps name ls (read width (kept s))
   hear_keeps spoiled s = spoiled_keeps (read width (kept s))

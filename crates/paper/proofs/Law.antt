@@ -3,20 +3,20 @@ use mathlib.Core.Path.{◌≡◌, refl}
 use mathlib.Core.Bool.{Bool, true, false, ◌&&◌, false≢true}
 use mathlib.Core.List.{List}
 use Prim.Native.Nat.{ℕ}
-use Rattle.paper.specs.Byte.{if◌then◌else◌}
+use Rattle.paper.specs.Byte.{when◌then◌else◌}
 use Rattle.paper.specs.Line.{Got, got, bad, Reader, followed}
 
-pub if_true {ℓ} : {A : Type ℓ} (t : Bool) (a b : A) → t ≡ true → (if t then a else b) ≡ a
-unfolding if◌then◌else◌
+pub if_true {ℓ} : {A : Type ℓ} (t : Bool) (a b : A) → t ≡ true → (when t then a else b) ≡ a
+unfolding when◌then◌else◌
 if_true t a b e = rw e
 
-pub if_false {ℓ} : {A : Type ℓ} (t : Bool) (a b : A) → t ≡ false → (if t then a else b) ≡ b
-unfolding if◌then◌else◌
+pub if_false {ℓ} : {A : Type ℓ} (t : Bool) (a b : A) → t ≡ false → (when t then a else b) ≡ b
+unfolding when◌then◌else◌
 if_false t a b e = rw e
 
 -- a property of a choice, from the property of each side under its test
-pub by_test {ℓ κ} : {A : Type ℓ} (K : A → Type κ) (t : Bool) (a b : A) → (t ≡ true → K a) → (t ≡ false → K b) → K (if t then a else b)
-unfolding if◌then◌else◌
+pub by_test {ℓ κ} : {A : Type ℓ} (K : A → Type κ) (t : Bool) (a b : A) → (t ≡ true → K a) → (t ≡ false → K b) → K (when t then a else b)
+unfolding when◌then◌else◌
 by_test K true a b yes' no' = yes' refl
 by_test K false a b yes' no' = no' refl
 

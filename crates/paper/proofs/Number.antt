@@ -8,7 +8,7 @@ use native.Mathlib.Omega.{arith}
 use lib.ListN.{length, length-append, replicate}
 use lib.Dec.{leb, ltb}
 use borrow.Author.Tests.{ltb-true, ltb-false, lt-ltb, le-ltb, le-leb, not-true}
-use Rattle.paper.specs.Byte.{if◌then◌else◌, between, every, decimal_within, decimal}
+use Rattle.paper.specs.Byte.{when◌then◌else◌, between, every, decimal_within, decimal}
 use Rattle.paper.specs.Line.{got, followed, give, one, is_digit, digit, two_digits, more_digits, number}
 use Rattle.paper.specs.Write.{two}
 use Rattle.paper.specs.Set.{amount}
@@ -119,7 +119,7 @@ no_digit (b ∷ s) = not (leb 48 b && leb b 57)
 
 -- a digit is read as its value
 pub digit_cons : (b : ℕ) (r : List ℕ) → is_digit b ≡ true → digit (b ∷ r) ≡ got (b - 48) r
-unfolding digit one followed give if◌then◌else◌
+unfolding digit one followed give when◌then◌else◌
 digit_cons b r e = rw e
 
 -- a byte that is no digit, from a text that begins with none

@@ -7,7 +7,7 @@ use Prim.Native.Nat.{ℕ, zero, suc, ◌<◌}
 use native.Mathlib.Omega.{arith}
 use lib.Dec.{eqb}
 use borrow.Author.Tests.{eqb-true, eqb-false}
-use Rattle.paper.specs.Byte.{if◌then◌else◌, same}
+use Rattle.paper.specs.Byte.{when◌then◌else◌, same}
 use Rattle.paper.specs.Command.{Filing, start, finish, inform, recall, delete, star}
 use Rattle.paper.specs.Refusal.{Refusal, others_collect, held_open}
 use Rattle.paper.specs.Form.{is_some, find}
@@ -82,12 +82,12 @@ pub barred_finish : (c : Class) (t : ℕ) → barred c t (some finish) ≡ none
 unfolding starts strikes
 barred_finish c t = barred_free c t (some finish) refl (unstruck c t (some finish) (λ h. refl))
 
-pub barred_start : (c : Class) (t : ℕ) (name : List ℕ) → barred c t (some (start name)) ≡ (if not (is_some (find name c.forms)) && another c t (λ x. collects x.session) then some others_collect else none)
+pub barred_start : (c : Class) (t : ℕ) (name : List ℕ) → barred c t (some (start name)) ≡ (when not (is_some (find name c.forms)) && another c t (λ x. collects x.session) then some others_collect else none)
 unfolding barred starts strikes
 barred_start c t name = rw (if_false {A = Option Refusal} _ (some held_open) none (unstruck c t (some (start name)) (λ h. refl)))
 
-pub barred_delete : (c : Class) (t : ℕ) (name : List ℕ) → barred c t (some (delete name)) ≡ (if another c t (λ x. holds_form x.session && (same name star || same name x.form)) then some held_open else none)
-unfolding barred starts strikes if◌then◌else◌
+pub barred_delete : (c : Class) (t : ℕ) (name : List ℕ) → barred c t (some (delete name)) ≡ (when another c t (λ x. holds_form x.session && (same name star || same name x.form)) then some held_open else none)
+unfolding barred starts strikes when◌then◌else◌
 barred_delete c t name = refl
 
 -- where a form may be started no other collects
@@ -122,7 +122,7 @@ barred_ends c t f r e =
 
 -- only in Idle may a line be forbidden
 pub barred_idle : (width : ℕ) (c : Class) (t : ℕ) (st : Session) (s : List ℕ) (r : Refusal) → barred c t (filing_of width st s) ≡ some r → st ≡ idle
-unfolding filing_of at_rest if◌then◌else◌
+unfolding filing_of at_rest when◌then◌else◌
 barred_idle width c t idle s r e = refl
 barred_idle width c t (collecting name ls) s r e = some_none e (barred_none c t)
 barred_idle width c t spoiled s r e = some_none e (barred_none c t)

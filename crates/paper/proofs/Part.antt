@@ -6,7 +6,7 @@ use mathlib.Core.Bool.{true}
 use mathlib.Core.List.{List, [], ◌∷◌, ◌++◌, append-nil, append_assoc}
 use native.Mathlib.Omega.{arith}
 use lib.ListN.{length, length-append}
-use Rattle.paper.specs.Byte.{bytes, if◌then◌else◌, between, every, any, among, decimal}
+use Rattle.paper.specs.Byte.{bytes, when◌then◌else◌, between, every, any, among, decimal}
 use Rattle.paper.specs.Line.{got, bad, Reader, followed, give, ended, one, byte, comma, part, digit, two_digits, number, letter, string, quoted}
 use Rattle.paper.specs.Command.{Value, counter, variable, Content, text, shown, joined, Step, up, down, texts, value_range, content_ranges, step_range}
 use Rattle.paper.specs.Read.{or_else, font, step_of, step, value, behind, content}
@@ -42,7 +42,7 @@ closing f b = record { reads = rw b.reads; short = b.short }
 -- a part with its comma, and what follows
 pub before : {A B : Type 0} {p : Reader A} {a : A} {u : List ℕ} {k : ℕ} (next : A → Reader B) {b : B} {v : List ℕ} {m : ℕ}
     → Back p a u k → Last (next a) b v m → Last (λ s. followed (part p s) next) b (u ++ (code "," ∷ v)) (k + suc m)
-unfolding followed part comma byte one if◌then◌else◌ give
+unfolding followed part comma byte one when◌then◌else◌ give
 before next {v = v} x y = record { reads = rw (x.reads (code "," ∷ v) refl) y.reads; short = rw length-append (omega arith) }
 
 -- a text that a reader reads back whatever stands behind it
@@ -58,7 +58,7 @@ nothing a = record { reads = λ r. refl; short = omega arith }
 -- a part with its comma, and such a text
 pub ahead : {A B : Type 0} {p : Reader A} {a : A} {u : List ℕ} {k : ℕ} (next : A → Reader B) {b : B} {v : List ℕ} {m : ℕ}
     → Back p a u k → Head (next a) b v m → Head (λ s. followed (part p s) next) b (u ++ (code "," ∷ v)) (k + suc m)
-unfolding followed part comma byte one if◌then◌else◌ give
+unfolding followed part comma byte one when◌then◌else◌ give
 ahead next {v = v} x y =
     record {
       reads = λ r. rw (append_assoc, x.reads (code "," ∷ (v ++ r)) refl) (y.reads r);
@@ -98,7 +98,7 @@ string_back most s h = record { reads = λ r _. string_quoted s r; short = omega
 
 -- a letter out of some
 pub letter_back : (s : List ℕ) (b : ℕ) → every (between (code "A") (code "Z")) s ≡ true → among s b ≡ true → Back letter b (b ∷ []) 1
-unfolding letter one if◌then◌else◌
+unfolding letter one when◌then◌else◌
 letter_back s b e a =
     let l : between (code "A") (code "Z") b ≡ true = among_every (between (code "A") (code "Z")) s b e a in
     record { reads = λ r _. rw l; short = omega arith }
@@ -121,18 +121,18 @@ font_back k n h =
     record { reads = λ r e. or_else_got number _ (decimal n ++ r) n r (b.reads r e); short = b.short }
 
 step_of_up : (n : ℕ) → step_of (code "+") n ≡ up n
-unfolding step_of if◌then◌else◌
+unfolding step_of when◌then◌else◌
 step_of_up zero = refl
 step_of_up (suc n) = refl
 
 step_of_down : (n : ℕ) → 1 ≤ n → step_of (code "-") n ≡ down n
-unfolding step_of if◌then◌else◌
+unfolding step_of when◌then◌else◌
 step_of_down zero h = absurd (omega arith)
 step_of_down (suc n) h = refl
 
 -- a step up, and a step down by 1 or more
 pub step_back : (s : Step) → Passed (step_range s) → Back step s (step_text s) 5
-unfolding step step_text step_range one among any bytes followed if◌then◌else◌ give
+unfolding step step_text step_range one among any bytes followed when◌then◌else◌ give
 step_back (up n) h =
     let b : Back number n (decimal n) 4 = number_back 4 n (omega tests) in
     record { reads = λ r e. rw (b.reads r e, step_of_up n); short = omega (arith, b.short) }
@@ -142,7 +142,7 @@ step_back (down n) h =
 
 -- a value by its number
 pub value_back : (v : Value) → Passed (value_range v) → Back value v (value_text v) 3
-unfolding value value_text value_range bytes one byte followed if◌then◌else◌ give
+unfolding value value_text value_range bytes one byte followed when◌then◌else◌ give
 value_back (counter n) h =
     let b : Back digit n (decimal n) 1 = digit_back n (omega tests) in
     record { reads = λ r e. or_else_got _ _ (code "C" ∷ (decimal n ++ r)) (counter n) r (rw (b.reads r e)); short = omega (arith, b.short) }
@@ -152,7 +152,7 @@ value_back (variable n) h =
 
 -- a value's text is no string, and not empty
 value_no_string : (v : Value) → string (value_text v) ≡ bad
-unfolding value_text string bytes byte one followed if◌then◌else◌
+unfolding value_text string bytes byte one followed when◌then◌else◌
 value_no_string (counter n) = refl
 value_no_string (variable n) = refl
 

@@ -10,7 +10,7 @@ use native.Mathlib.Omega.{arith}
 use lib.ListN.{length, drop, length-append}
 use lib.Dec.{leb, eqb}
 use borrow.Author.Tests.{leb-true, le-leb, le-ltb, eq-eqb, ne_eqb}
-use Rattle.paper.specs.Byte.{if◌then◌else◌, every, same}
+use Rattle.paper.specs.Byte.{when◌then◌else◌, every, same}
 use Rattle.paper.specs.Line.{is_digit, long, control, cut}
 use Rattle.paper.specs.Command.{Define, counting, varying, FormLine, draw, define, file, recall, ask, print, is_name, is_shown, in_range, ranges, draw_ranges, define_ranges, filing_ranges, all, all_of}
 use Rattle.paper.specs.Refusal.{Answer, accepted}
@@ -72,7 +72,7 @@ accepts_next width b mid next s ss e more (room ∷ rooms) l =
 
 -- the name of a stored form is a name
 find_named : (width : ℕ) (name : List ℕ) (fs : List Form) (ls : List FormLine) → AllStored width fs → find name fs ≡ some ls → is_name name ≡ true
-unfolding find if◌then◌else◌
+unfolding find when◌then◌else◌
 find_named width name [] ls h e = absurd (some-ne-none _ (sym e))
 find_named width name (f ∷ fs) ls h e =
     either (same name f.name)
@@ -193,7 +193,7 @@ module _ (width : ℕ) (b : Bench) (name : List ℕ) (ls : List FormLine) (given
 
   -- the state with so many sets taken
   unfoldable after_sets : ℕ → Session
-  after_sets i = if eqb i n then idle else printing ls given n c i
+  after_sets i = when eqb i n then idle else printing ls given n c i
 
   -- takes with enough room give the sets from the next on, and after the last the bench is Idle
   gives_from : (i : ℕ) (rooms : List ℕ) → i + length rooms ≡ n → every (leb enough) rooms ≡ true → Goes width (at' (after_sets i)) (map taking rooms) (map accepted (sets_from ls given c i (length rooms))) (at' idle)

@@ -8,7 +8,7 @@ use native.Mathlib.Omega.{arith}
 use lib.ListN.{length}
 use lib.Dec.{eqb}
 use borrow.Author.Tests.{eqb-true}
-use Rattle.paper.specs.Byte.{bytes, if◌then◌else◌, between, any, among}
+use Rattle.paper.specs.Byte.{bytes, when◌then◌else◌, between, any, among}
 use Rattle.paper.specs.Line.{Got, got, bad, Reader, followed, give, ended, one, byte, comma, part, is_digit, digit, two_digits, more_digits, number, letter, quote, backslash, within, plain, escaped, string, long, control}
 use Rattle.paper.specs.Command.{Content, text, shown, joined, Pen, size, direction, put, bar, frame, counting, varying, draw, define, start, finish, inform, recall, delete, Command, empty, new, keep, file, ask, print, in_range}
 use Rattle.paper.specs.Refusal.{too_long, control_byte, out_of_range}
@@ -21,7 +21,7 @@ use Rattle.paper.proofs.Part.{or_else_got, or_else_bad}
 -- what stands behind each quote of a text
 unfoldable pub quotes : List ℕ → List (List ℕ)
 quotes [] = []
-quotes (b ∷ s) = if eqb b quote then s ∷ quotes s else quotes s
+quotes (b ∷ s) = when eqb b quote then s ∷ quotes s else quotes s
 
 -- each of some texts has a property
 abbrev pub All : (List ℕ → Type 0) → List (List ℕ) → Type 0
@@ -35,12 +35,12 @@ all_map (v ∷ vs) f h = (f v h.0, all_map vs f h.1)
 
 -- a quote has what stands behind it
 pub quotes_open : (b : ℕ) (s : List ℕ) → eqb b quote ≡ true → quotes (b ∷ s) ≡ s ∷ quotes s
-unfolding quotes if◌then◌else◌
+unfolding quotes when◌then◌else◌
 quotes_open b s e = rw e
 
 -- another byte adds nothing
 pub quotes_pass : (b : ℕ) (s : List ℕ) → eqb b quote ≡ false → quotes (b ∷ s) ≡ quotes s
-unfolding quotes if◌then◌else◌
+unfolding quotes when◌then◌else◌
 quotes_pass b s e = rw e
 
 -- at a quote the string ends
@@ -270,7 +270,7 @@ these_pass (b ∷ u) e = go (eqb quote b) refl (these_pass u) e
 
 -- a string that no quote follows is the only one of its content
 string_finds : Finds (λ qs t r. quotes r ≡ [] → Single qs t) string
-unfolding string byte one followed if◌then◌else◌ first
+unfolding string byte one followed when◌then◌else◌ first
 string_finds = record { sure = go }
   where
     go : (s : List ℕ) → Sure (λ t r. quotes r ≡ [] → Single (quotes s) t) (string s)
@@ -278,11 +278,11 @@ string_finds = record { sure = go }
     go (b ∷ s) =
         either (eqb b quote)
         (λ y.
-        rw (y, if◌then◌else◌, quotes_open b s y)
+        rw (y, when◌then◌else◌, quotes_open b s y)
         (sure_map (plain s)
         (λ t r p h e. record { only = ((λ r' q. refl), all_map (quotes s) (λ v k r' q. absurd (let less = k t r' q in omega arith)) (h e)) })
         (inner s).0))
-        (λ n. rw (n, if◌then◌else◌) tt)
+        (λ n. rw (n, when◌then◌else◌) tt)
 
 -- such a string with more behind it, in which there is no quote either
 string_then : {B : Type 0} {K : List (List ℕ) → B → Type 0} {next : List ℕ → Reader B}

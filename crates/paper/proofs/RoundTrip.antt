@@ -7,7 +7,7 @@ use mathlib.Core.Option.{Option, none, some}
 use native.Mathlib.Omega.{arith}
 use lib.ListN.{length}
 use borrow.Author.Tests.{le-ltb}
-use Rattle.paper.specs.Byte.{if◌then◌else◌, decimal_within, decimal}
+use Rattle.paper.specs.Byte.{when◌then◌else◌, decimal_within, decimal}
 use Rattle.paper.specs.Line.{long, control}
 use Rattle.paper.specs.Command.{Command, ranges, in_range}
 use Rattle.paper.specs.Refusal.{Refusal, too_long, control_byte, unknown, malformed, out_of_range}
@@ -42,7 +42,7 @@ normal_control width c e = clear_control (normal c) (normal_clear width c (held 
 
 -- a command in range is read back from its normal form
 pub read_normal : (width : ℕ) (c : Command) → width ≤ 10000 → in_range width c ≡ true → read width (normal c) ≡ command c
-unfolding read long judged if◌then◌else◌
+unfolding read long judged when◌then◌else◌
 read_normal width c w e =
     let most : length (decimal (width - 1)) ≤ 5 = decimal_is_within 5 (width - 1) (omega arith) (omega arith) in
     let short : length (normal c) ≤ 256 = omega (arith, normal_length width c w e) in

@@ -8,7 +8,7 @@ use native.Mathlib.Omega.{arith}
 use lib.ListN.{length, length-append}
 use lib.Dec.{leb}
 use borrow.Author.Tests.{leb-true}
-use Rattle.paper.specs.Byte.{bytes, if◌then◌else◌, between, every, same, decimal}
+use Rattle.paper.specs.Byte.{bytes, when◌then◌else◌, between, every, same, decimal}
 use Rattle.paper.specs.Line.{Reader, followed, give, ended, one, byte, comma, number, string, quoted}
 use Rattle.paper.specs.Command.{Content, Setting, Pen, black, flip, white, size, direction, put, bar, frame, Step, counting, varying, draw, define, Filing, start, finish, inform, recall, delete, Command, empty, new, keep, file, ask, print, texts, content_ranges, setting_ranges, draw_ranges, define_ranges, is_name_byte, is_name, star, filing_ranges, ranges}
 use Rattle.paper.specs.Read.{setting, size_line, direction_line, text_line, bar_line, frame_line, counter_line, variable_line, name_line, copies_of, print_line, row, table, these, shaped, body_shape, by_row, shape}
@@ -112,7 +112,7 @@ name_last does s b = closing _ (last b)
 
 -- `P`: two numbers
 print_last : (n c : ℕ) → n ≤ 65535 → c ≤ 65535 → Last print_line (print n c) (commas (decimal n ∷ decimal c ∷ [])) 11
-unfolding print_line copies_of commas comma byte one ended followed if◌then◌else◌ every
+unfolding print_line copies_of commas comma byte one ended followed when◌then◌else◌ every
 print_last n c h l =
     let a : Back number n (decimal n) 5 = number_back 5 n (omega arith) in
     let b : Back number c (decimal c) 5 = number_back 5 c (omega arith) in
@@ -139,7 +139,7 @@ by_letters letters c most x e row l =
 
 -- every command in range has such a normal form
 pub fine : (width : ℕ) (c : Command) → width ≤ 10000 → Held (ranges width c) → Fine c (224 + length (decimal (width - 1)))
-unfolding ranges draw_ranges filing_ranges normal line_text draw_text define_text filing_text pen_text bytes shape by_row table row these byte one ended followed give if◌then◌else◌ body_shape every
+unfolding ranges draw_ranges filing_ranges normal line_text draw_text define_text filing_text pen_text bytes shape by_row table row these byte one ended followed give when◌then◌else◌ body_shape every
 fine width empty w h = record { reads = refl; short = omega arith }
 fine width new w h = record { reads = refl; short = omega arith }
 fine width (keep (draw (size p₁ p₂))) w h = by_letters (bytes "Q") _ _ (size_last width p₁ p₂ h) refl refl (omega arith)

@@ -10,7 +10,7 @@ use native.Mathlib.Omega.{arith}
 use lib.ListN.{length, length-append}
 use lib.Dec.{leb}
 use borrow.Author.Tests.{leb-true, le-leb}
-use Rattle.paper.specs.Byte.{bytes, if◌then◌else◌, decimal}
+use Rattle.paper.specs.Byte.{bytes, when◌then◌else◌, decimal}
 use Rattle.paper.specs.Line.{lf, cut}
 use Rattle.paper.specs.Command.{Value, Draw, size, direction, put, bar, frame, Define, FormLine, draw, define, Command, new, keep, print, ranges, all, all_of, in_range}
 use Rattle.paper.specs.Refusal.{accepted}
@@ -90,7 +90,7 @@ ends_the_set values copies most k above (define d ∷ ls) b h =
 
 -- a sound form of at most 40 lines makes a set: `N`, `Q`, `Z`, at most 38 plain lines, `P1,c`
 pub sound_set : (values : Value → List ℕ) (copies : ℕ) (ls : List FormLine) → unsound_at ls ≡ none → length ls ≤ 40 → is_set (set_lines values ls copies) ≡ true
-unfolding unsound_at first_broken in_place drawing set_lines drawn is_set is_new draws if◌then◌else◌
+unfolding unsound_at first_broken in_place drawing set_lines drawn is_set is_new draws when◌then◌else◌
 sound_set values copies [] e h = absurd (some-ne-none _ e)
 sound_set values copies (define a ∷ ls) e h = absurd (false≢true (broken_cons 0 [] (define a) ls e).0)
 sound_set values copies (draw a ∷ []) e h = absurd (some-ne-none _ (broken_cons 0 [] (draw a) [] e).2)
@@ -192,7 +192,7 @@ set_depends width ls ms answers c i w e f t = ap (λ l. set_of l answers c i) (t
 
 -- a take with room for any set gives the set that is next, and goes on
 pub take_gives : (width room : ℕ) (b : Bench) (ls : List FormLine) (answers : List (List ℕ)) (n c i : ℕ) → width ≤ 10000 → 10291 ≤ room → Sane width b → b.session ≡ printing ls answers n c i → take_set room b ≡ record { answer = accepted (set_of ls answers c i); next = record { forms = b.forms; session = after_set ls answers n c i } }
-unfolding take_set taken replied outcome if◌then◌else◌
+unfolding take_set taken replied outcome when◌then◌else◌
 take_gives width room b ls answers n c i w more sane was =
     let sound : Sound width b.forms (printing ls answers n c i) = rw was at sane.session in
     let short = set_room width ls answers n c i sound.0 sound.1 sound.2 w in

@@ -9,7 +9,7 @@ use Prim.Native.Nat.{ℕ, zero, suc, ◌-◌, ◌<◌}
 use native.Mathlib.Omega.{arith}
 use lib.ListN.{length, get_or}
 use lib.Dec.{leb, eqb}
-use Rattle.paper.specs.Byte.{if◌then◌else◌}
+use Rattle.paper.specs.Byte.{when◌then◌else◌}
 use Rattle.paper.specs.Line.{kept}
 use Rattle.paper.specs.Command.{FormLine, empty, new, keep, file, recall, ask, print}
 use Rattle.paper.specs.Refusal.{Answer}
@@ -98,7 +98,7 @@ answers_alike width st st' (s ∷ ss) e =
 
 -- a take leaves the session, but for the number that is out; or it was the last
 take_alike : (room : ℕ) (st : Session) → holds_form (taken room [] st).next.session ≡ true → rewound (taken room [] st).next.session ≡ rewound st
-unfolding taken replied after_set outcome rewound holds_form open_lines is_some if◌then◌else◌
+unfolding taken replied after_set outcome rewound holds_form open_lines is_some when◌then◌else◌
 take_alike room idle h = refl
 take_alike room (collecting name ls) h = refl
 take_alike room spoiled h = refl
@@ -157,7 +157,7 @@ due_next ls given n c i l = let left : n - i ≡ suc (n - suc i) = omega arith i
 
 -- a line
 line_begins : (width : ℕ) (st : Session) (s : List ℕ) (es : List Entry) → Own width (heard width 0 [] st s).next.session es → Begins (sets_in es) (ordered width (heard width 0 [] st s).next.session (lines_in es)) → Begins (sets_in es) (ordered width st (s ∷ lines_in es))
-unfolding ordered prints if◌then◌else◌ heard holds_form open_lines is_some
+unfolding ordered prints when◌then◌else◌ heard holds_form open_lines is_some
 line_begins width idle s es o b = b
 line_begins width (collecting name ls) s es o b = b
 line_begins width spoiled s es o b = b
@@ -180,7 +180,7 @@ set_begins width ls given n c i es l =
 
 -- a take
 take_begins : (width room : ℕ) (st : Session) (es : List Entry) → Sound width [] st → Own width (taken room [] st).next.session es → Begins (sets_in es) (ordered width (taken room [] st).next.session (lines_in es)) → Begins (set_of_call (taking room) (taken room [] st).answer ++ sets_in es) (ordered width st (lines_in es))
-unfolding taken replied outcome set_of_call if◌then◌else◌ prints
+unfolding taken replied outcome set_of_call when◌then◌else◌ prints
 take_begins width room idle es g o b = b
 take_begins width room (collecting name ls) es g o b = b
 take_begins width room spoiled es g o b = b

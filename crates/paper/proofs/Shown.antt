@@ -10,7 +10,7 @@ use native.Mathlib.Omega.{arith}
 use lib.ListN.{length, length-append, length-replicate, replicate}
 use lib.Dec.{leb}
 use borrow.Author.Tests.{leb-true, le-leb}
-use Rattle.paper.specs.Byte.{if◌then◌else◌, between, every, decimal}
+use Rattle.paper.specs.Byte.{when◌then◌else◌, between, every, decimal}
 use Rattle.paper.specs.Line.{is_digit}
 use Rattle.paper.specs.Command.{Value, Step, Define, counting, varying, is_shown}
 use Rattle.paper.specs.Form.{value_of, len_of, same_value, defined}
@@ -80,7 +80,7 @@ shows_fits (varying n len letter prompt) a i f h = unfold shows fits in record {
 
 -- what a defined value shows fits its definition: the first definition is the first match
 pub value_in_fits : (ds : List Define) (answers : List (List ℕ)) (i : ℕ) (v : Value) (d : Define) → fitting ds answers ≡ true → all_hold i ds answers ≡ true → defined v ds ≡ some d → Shown (len_of d) (value_in ds answers i v)
-unfolding fitting all_hold defined value_in if◌then◌else◌
+unfolding fitting all_hold defined value_in when◌then◌else◌
 value_in_fits [] answers i v d f h e = let z : ◌≡◌ {A = ℕ} 0 1 = cc in absurd (omega arith)
 value_in_fits (b ∷ ds) [] i v d f h e = absurd (false≢true f)
 value_in_fits (b ∷ ds) (a ∷ more) i v d f h e =

@@ -7,7 +7,7 @@ use mathlib.Core.Option.{Option, none, some}
 use Prim.Native.Nat.{ℕ, ◌≤◌, ◌<◌}
 use lib.ListN.{length}
 use lib.Dec.{ltb, eqb}
-use Rattle.paper.specs.Byte.{if◌then◌else◌, any, among}
+use Rattle.paper.specs.Byte.{when◌then◌else◌, any, among}
 use Rattle.paper.specs.Refusal.{Answer, accepted, refused}
 use Rattle.paper.specs.Class.{Tablet, Class, thirty, prints, reply, denied, hear_of, hear_from, take_next, Request, sends, fetches, reply_to, served_by, served_in, keeps_printing, silent}
 use Rattle.paper.specs.Diary.{is_for}
@@ -24,7 +24,7 @@ not_own false e = refl
 
 -- a line of another is for another
 pub line_elsewhere : (width t u room : ℕ) (c : Class) (s : List ℕ) → eqb t u ≡ false → is_for t (hear_from width room c u s).whose ≡ false
-unfolding hear_from hear_of reply denied is_for if◌then◌else◌
+unfolding hear_from hear_of reply denied is_for when◌then◌else◌
 line_elsewhere width t u room c s n = either (ltb u thirty) (λ y. rw y n) (λ m. rw m)
 
 -- an accepted take that does not serve a tablet, and every refused one, leaves it

@@ -7,7 +7,7 @@ use mathlib.Core.Option.{some}
 use native.Mathlib.Omega.{arith}
 use lib.Dec.{ltb}
 use borrow.Author.Tests.{ltb-false, ne_eqb}
-use Rattle.paper.specs.Byte.{if◌then◌else◌, any}
+use Rattle.paper.specs.Byte.{when◌then◌else◌, any}
 use Rattle.paper.specs.Line.{lf, infront, cut, control}
 use Rattle.paper.specs.Command.{FormLine, Command, keep, in_range}
 use Rattle.paper.specs.Write.{line_text, normal, lines_text}
@@ -27,7 +27,7 @@ or_right false b e = e
 
 -- a text without control bytes up to an LF is the first line
 pub cut_line : (s r : List ℕ) → control s ≡ false → cut (s ++ (lf ∷ r)) ≡ s ∷ cut r
-unfolding cut infront control any if◌then◌else◌
+unfolding cut infront control any when◌then◌else◌
 cut_line [] r e = refl
 cut_line (b ∷ s) r e =
     let low : 0x20 ≤ b = ltb-false b 0x20 (or_left (ltb b 0x20) (control s) e) in

@@ -9,7 +9,7 @@ use Prim.Native.Nat.{ℕ, ◌+◌, ◌≤◌}
 use native.Mathlib.Omega.{arith}
 use lib.ListN.{length}
 use borrow.Author.Tests.{eq-eqb}
-use Rattle.paper.specs.Byte.{if◌then◌else◌, same}
+use Rattle.paper.specs.Byte.{when◌then◌else◌, same}
 use Rattle.paper.specs.Line.{kept}
 use Rattle.paper.specs.Command.{FormLine, is_name, finish, recall, delete, Command, file, star}
 use Rattle.paper.specs.Refusal.{no_room, absent, accepted, refused}
@@ -36,7 +36,7 @@ same_sym s t = agree (same s t) (same t s) (turned s t) (turned t s)
 
 -- behind forms without a name its form is found in what follows
 pub find_behind : (name : List ℕ) (fs gs : List Form) → find name fs ≡ none → find name (fs ++ gs) ≡ find name gs
-unfolding find if◌then◌else◌
+unfolding find when◌then◌else◌
 find_behind name [] gs e = refl
 find_behind name (f ∷ fs) gs e =
     either (same name f.name)
@@ -45,18 +45,18 @@ find_behind name (f ∷ fs) gs e =
 
 -- before forms without a name its form is found in what stands in front
 pub find_before : (name : List ℕ) (fs gs : List Form) → find name gs ≡ none → find name (fs ++ gs) ≡ find name fs
-unfolding find if◌then◌else◌
+unfolding find when◌then◌else◌
 find_before name [] gs e = e
 find_before name (f ∷ fs) gs e = either (same name f.name) (λ y. rw y) (λ n. rw n (find_before name fs gs e))
 
 -- the form of a name is found under it once it is stored
 pub find_stored : (fs : List Form) (name : List ℕ) (ls : List FormLine) → find name fs ≡ none → find name (stored fs name ls) ≡ some ls
-unfolding stored find if◌then◌else◌
+unfolding stored find when◌then◌else◌
 find_stored fs name ls free = find_behind name fs _ free ∙ rw (same_self name)
 
 -- another form's lines are as before
 pub find_stored_other : (fs : List Form) (name other : List ℕ) (ls : List FormLine) → same other name ≡ false → find other (stored fs name ls) ≡ find other fs
-unfolding stored find if◌then◌else◌
+unfolding stored find when◌then◌else◌
 find_stored_other fs name other ls apart = find_before other fs _ (rw apart)
 
 -- the new form stands behind those that were stored, which keep their order
@@ -66,23 +66,23 @@ stored_behind fs name ls = refl
 
 -- a deleted form is not found
 pub find_without : (name : List ℕ) (fs : List Form) → find name (without name fs) ≡ none
-unfolding find without if◌then◌else◌
+unfolding find without when◌then◌else◌
 find_without name [] = refl
 find_without name (f ∷ fs) =
     either (same name f.name) (λ y. rw y (find_without name fs)) (λ n. rw (n, n) (find_without name fs))
 
 -- another form is found as before
 pub find_without_other : (name other : List ℕ) (fs : List Form) → same other name ≡ false → find other (without name fs) ≡ find other fs
-unfolding find without if◌then◌else◌
+unfolding find without when◌then◌else◌
 find_without_other name other [] apart = refl
 find_without_other name other (f ∷ fs) apart =
     either (same name f.name)
     (λ y. rw (y, ← same_eq name f.name y, apart) (find_without_other name other fs apart))
-    (λ n. rw n (ap (λ r. if same other f.name then some f.lines else r) (find_without_other name other fs apart)))
+    (λ n. rw n (ap (λ r. when same other f.name then some f.lines else r) (find_without_other name other fs apart)))
 
 -- deleting keeps the order: it goes form by form
 pub without_append : (name : List ℕ) (xs ys : List Form) → without name (xs ++ ys) ≡ without name xs ++ without name ys
-unfolding without if◌then◌else◌
+unfolding without when◌then◌else◌
 without_append name [] ys = refl
 without_append name (x ∷ xs) ys =
     either (same name x.name)
@@ -91,7 +91,7 @@ without_append name (x ∷ xs) ys =
 
 -- deleting an absent name deletes nothing
 pub without_absent : (name : List ℕ) (fs : List Form) → find name fs ≡ none → without name fs ≡ fs
-unfolding find without if◌then◌else◌
+unfolding find without when◌then◌else◌
 without_absent name [] e = refl
 without_absent name (f ∷ fs) e =
     either (same name f.name)
@@ -100,13 +100,13 @@ without_absent name (f ∷ fs) e =
 
 -- deleting what was just stored gives the store back
 pub without_stored : (fs : List Form) (name : List ℕ) (ls : List FormLine) → find name fs ≡ none → without name (stored fs name ls) ≡ fs
-unfolding stored without if◌then◌else◌
+unfolding stored without when◌then◌else◌
 without_stored fs name ls free =
     without_append name fs _ ∙ rw (without_absent name fs free, same_self name) (append-nil fs)
 
 -- the forms that deleting leaves are some of those before, in their order: whatever holds of such lists holds of them
 pub without_some : (R : List Form → List Form → Type 0) → R [] [] → ((f : Form) (xs ys : List Form) → R xs ys → R xs (f ∷ ys)) → ((f : Form) (xs ys : List Form) → R xs ys → R (f ∷ xs) (f ∷ ys)) → (name : List ℕ) (fs : List Form) → R (without name fs) fs
-unfolding without if◌then◌else◌
+unfolding without when◌then◌else◌
 without_some R none' drops keeps name [] = none'
 without_some R none' drops keeps name (f ∷ fs) =
     let rest = without_some R none' drops keeps name fs in
@@ -123,7 +123,7 @@ length_without = without_some (λ xs ys. length xs ≤ length ys) (omega arith) 
 
 -- the room of a deleted form is free again
 pub used_freed : (width : ℕ) (name : List ℕ) (fs : List Form) (ls : List FormLine) → AllStored width fs → find name fs ≡ some ls → used (without name fs) + length (text_of ls) ≡ used fs
-unfolding used find without if◌then◌else◌
+unfolding used find without when◌then◌else◌
 used_freed width name [] ls all e = absurd (some-ne-none _ (sym e))
 used_freed width name (f ∷ fs) ls all e =
     either (same name f.name)
@@ -135,7 +135,7 @@ used_freed width name (f ∷ fs) ls all e =
 
 -- a form that is found may be held
 pub find_storable : (width : ℕ) (name : List ℕ) (fs : List Form) (ls : List FormLine) → AllStored width fs → find name fs ≡ some ls → Storable width ls
-unfolding find if◌then◌else◌
+unfolding find when◌then◌else◌
 find_storable width name [] ls all e = absurd (some-ne-none _ (sym e))
 find_storable width name (f ∷ fs) ls all e =
     either (same name f.name)
@@ -144,7 +144,7 @@ find_storable width name (f ∷ fs) ls all e =
 
 -- what is stored stays so without a form
 pub stored_without : (width : ℕ) (name : List ℕ) (fs : List Form) → AllStored width fs → AllStored width (without name fs)
-unfolding without if◌then◌else◌
+unfolding without when◌then◌else◌
 stored_without width name [] all = tt
 stored_without width name (f ∷ fs) all =
     let rest = stored_without width name fs all.3 in
@@ -154,7 +154,7 @@ stored_without width name (f ∷ fs) all =
 
 -- and with one form more under a name that is free
 pub stored_with : (width : ℕ) (fs : List Form) (name : List ℕ) (ls : List FormLine) → AllStored width fs → is_name name ≡ true → find name fs ≡ none → Storable width ls → AllStored width (stored fs name ls)
-unfolding stored find if◌then◌else◌
+unfolding stored find when◌then◌else◌
 stored_with width [] name ls all named free good = (named, refl, good, tt)
 stored_with width (f ∷ fs) name ls all named free good =
     either (same name f.name)
@@ -179,7 +179,7 @@ hear_collecting width room b s c name ls was reads = rw (was, reads)
 
 -- what is checked and accepted is stored
 checked_stored : (fs : List Form) (name : List ℕ) (ls : List FormLine) (o : Option ℕ) → (checked fs name ls o).answer ≡ accepted [] → (checked fs name ls o).next ≡ record { forms = stored fs name ls; session = idle }
-unfolding checked done outcome if◌then◌else◌
+unfolding checked done outcome when◌then◌else◌
 checked_stored fs name ls (some n) e = cc
 checked_stored fs name ls none e = either (has_room fs ls) (λ y. rw y) (λ n. let never : refused no_room ≡ accepted [] = rw n at e in cc)
 
@@ -209,12 +209,12 @@ finish_others width room b s name other ls was reads e apart =
 
 -- `FK` of a name deletes that form
 pub delete_frees : (width room : ℕ) (b : Bench) (s name : List ℕ) → b.session ≡ idle → same name star ≡ false → read width (kept s) ≡ command (file (delete name)) → hear width room b s ≡ done (without name b.forms) idle
-unfolding in_idle filed deleted if◌then◌else◌
+unfolding in_idle filed deleted when◌then◌else◌
 delete_frees width room b s name was one reads = hear_idle width room b s _ was reads ∙ rw one
 
 -- `FK` of the star deletes every form
 pub delete_all : (width room : ℕ) (b : Bench) (s : List ℕ) → b.session ≡ idle → read width (kept s) ≡ command (file (delete star)) → hear width room b s ≡ done [] idle
-unfolding in_idle filed deleted if◌then◌else◌
+unfolding in_idle filed deleted when◌then◌else◌
 delete_all width room b s was reads = hear_idle width room b s _ was reads ∙ rw (same_self star)
 
 -- after `FK` of a name `FR` of that name is refused

@@ -6,7 +6,7 @@ use mathlib.Core.List.{List, [], ◌∷◌, ◌++◌}
 use native.Mathlib.Omega.{arith}
 use lib.ListN.{length, length-append}
 use lib.Dec.{eqb}
-use Rattle.paper.specs.Byte.{if◌then◌else◌, every}
+use Rattle.paper.specs.Byte.{when◌then◌else◌, every}
 use Rattle.paper.specs.Line.{Got, got, followed, give, one, byte, quote, backslash, within, plain, escaped, string, escape, quoted}
 use Rattle.paper.proofs.Law.{and_left, and_right, by_test}
 use Rattle.paper.proofs.Text.{every_append, clear}
@@ -20,19 +20,19 @@ plain_cons b s = refl
 
 -- the escaped content up to the closing quote is read as the content
 plain_escape : (s r : List ℕ) → plain ((escape s ++ (quote ∷ [])) ++ r) ≡ got s r
-unfolding plain escaped escape if◌then◌else◌ within followed give
+unfolding plain escaped escape when◌then◌else◌ within followed give
 plain_escape [] r = refl
 plain_escape (b ∷ s) r = go (eqb b quote) (eqb b backslash) refl refl (plain_escape s r)
   where
     go : (q k : Bool) → eqb b quote ≡ q → eqb b backslash ≡ k → plain ((escape s ++ (quote ∷ [])) ++ r) ≡ got s r
         → plain ((escape (b ∷ s) ++ (quote ∷ [])) ++ r) ≡ got (b ∷ s) r
-    go true k p q ih = rw (p, escape, if◌then◌else◌, ih)
+    go true k p q ih = rw (p, escape, when◌then◌else◌, ih)
     go false true p q ih = rw (p, q, ih)
-    go false false p q ih = rw (p, q, escape, if◌then◌else◌, plain_cons b, p, q, ih)
+    go false false p q ih = rw (p, q, escape, when◌then◌else◌, plain_cons b, p, q, ih)
 
 -- a string between quotes is read back, whatever stands behind it
 pub string_quoted : (s r : List ℕ) → string (quoted s ++ r) ≡ got s r
-unfolding string quoted byte one followed if◌then◌else◌
+unfolding string quoted byte one followed when◌then◌else◌
 string_quoted s r = plain_escape s r
 
 -- escaping leaves no byte out and puts at most one before each

@@ -9,7 +9,7 @@ use native.Mathlib.Omega.{arith}
 use lib.ListN.{length}
 use lib.Dec.{ltb, eqb}
 use borrow.Author.Tests.{eqb-true, eqb-false, ltb-true, ltb-false, lt-ltb, le-ltb}
-use Rattle.paper.specs.Byte.{if◌then◌else◌, any, among}
+use Rattle.paper.specs.Byte.{when◌then◌else◌, any, among}
 use Rattle.paper.specs.Refusal.{Answer, accepted, refused}
 use Rattle.paper.specs.Bench.{take_set}
 use Rattle.paper.specs.Class.{Class, thirty, desk, prints, reply, denied, Reply, hear_of, hear_from, onward, first_after, turn, last_after, serve, take_next, Request, sends, fetches, reply_to, served_by, served_in, wait, keeps_printing}
@@ -19,7 +19,7 @@ use Rattle.paper.proofs.Others.{neither_left, neither_right}
 
 -- how many places one tablet is ahead of another, upwards and from 29 on to 0
 unfoldable pub ahead : (k t : ℕ) → ℕ
-ahead k t = if ltb k t then t - k else suc t + (29 - k)
+ahead k t = when ltb k t then t - k else suc t + (29 - k)
 
 ahead_above : (k t : ℕ) → k < t → ahead k t ≡ t - k
 unfolding ahead
@@ -158,7 +158,7 @@ within_thirty width t c qs l p = let near = waits width t c qs l p in let far = 
 
 -- where it gets none, its next would come behind all that were given
 wait_none : (t : ℕ) (us : List ℕ) → among us t ≡ false → wait t us ≡ suc (length us)
-unfolding among any wait if◌then◌else◌
+unfolding among any wait when◌then◌else◌
 wait_none t [] e = refl
 wait_none t (u ∷ us) e = rw (neither_left (eqb t u) _ e, wait_none t us (neither_right (eqb t u) _ e))
 

@@ -1,5 +1,6 @@
 -- 'The states': what every line does in every state, and every take.
-use Rattle.paper.specs.Byte.{ℕ, suc, ◌-◌, List, [], ◌∷◌, ◌++◌, Option, none, some, length, drop, leb, eqb, if◌then◌else◌, same}
+use Rattle.std.specs.Prelude.{ℕ, suc, ◌-◌, List, [], ◌∷◌, ◌++◌, length, drop, leb, eqb}
+use Rattle.paper.specs.Byte.{Option, none, some, when◌then◌else◌, same}
 use Rattle.paper.specs.Line.{kept, long, control}
 use Rattle.paper.specs.Command.{Define, FormLine, Filing, start, finish, inform, recall, delete, Command, empty, new, keep, file, ask, print, star}
 use Rattle.paper.specs.Refusal.{Refusal, too_long, control_byte, not_now, overfull, is_spoiled, unsound, name_taken, no_room, absent, unfit, overrun, too_short, not_printing, Answer, accepted, refused}
@@ -42,7 +43,7 @@ done = outcome (accepted [])
 -- accepted with bytes to write, where the lent buffer has the room; refused by 15 otherwise, the state staying
 unfoldable pub replied : (room : ℕ) → List ℕ → List Form → (stay go : Session) → Outcome
 replied room bytes forms stay go =
-    if leb (length bytes) room then outcome (accepted bytes) forms go else outcome (refused too_short) forms stay
+    when leb (length bytes) room then outcome (accepted bytes) forms go else outcome (refused too_short) forms stay
 
 -- what a refused line leaves: in Collecting the form is spoiled, in Answering the bench is Idle, else the state stays
 unfoldable pub after_refusal : Session → Session
@@ -70,12 +71,12 @@ recalled forms (some ls) = done forms (opened_with ls (asked ls))
 
 -- `FK` of an absent name is accepted and deletes nothing; the star deletes every form
 unfoldable pub deleted : List ℕ → List Form → List Form
-deleted name forms = if same name star then [] else without name forms
+deleted name forms = when same name star then [] else without name forms
 
 -- the lines to the store in Idle
 unfoldable pub filed : ℕ → List Form → Filing → Outcome
 filed room forms (start name) =
-    if is_some (find name forms) then refuse name_taken forms idle else done forms (collecting name [])
+    when is_some (find name forms) then refuse name_taken forms idle else done forms (collecting name [])
 filed room forms finish = refuse not_now forms idle
 filed room forms inform = replied room (listing forms) forms idle idle
 filed room forms (recall name) = recalled forms (find name forms)
@@ -94,12 +95,12 @@ in_idle room forms (print n c) = refuse not_now forms idle
 unfoldable pub checked : List Form → List ℕ → List FormLine → Option ℕ → Outcome
 checked forms name ls (some n) = outcome (refused (unsound n)) forms idle
 checked forms name ls none =
-    if has_room forms ls then done (stored forms name ls) idle else outcome (refused no_room) forms idle
+    when has_room forms ls then done (stored forms name ls) idle else outcome (refused no_room) forms idle
 
 -- a line that is kept, unless the form would exceed its limits
 unfoldable pub collected : List Form → List ℕ → List FormLine → FormLine → Outcome
 collected forms name ls line =
-    if within_limits (ls ++ (line ∷ [])) then
+    when within_limits (ls ++ (line ∷ [])) then
     done forms (collecting name (ls ++ (line ∷ [])))
     else refuse overfull forms (collecting name ls)
 
@@ -147,7 +148,7 @@ in_ready forms ls answers (keep line) = refuse not_now forms (ready ls answers)
 in_ready forms ls answers (file filing) = refuse not_now forms (ready ls answers)
 in_ready forms ls answers ask = refuse not_now forms (ready ls answers)
 in_ready forms ls answers (print n c) =
-    if all_hold (n - 1) (asked ls) answers then done forms (printing ls answers n c 0) else refuse overrun forms (ready ls answers)
+    when all_hold (n - 1) (asked ls) answers then done forms (printing ls answers n c 0) else refuse overrun forms (ready ls answers)
 
 -- Printing
 unfoldable pub in_printing : List Form → Session → Command → Outcome
@@ -167,17 +168,17 @@ answered_of ls answers (d ∷ ds) = answering ls answers
 unfoldable pub answered : List Form → List FormLine → List (List ℕ) → List ℕ → List Define → Outcome
 answered forms ls answers s [] = done forms (ready ls answers)
 answered forms ls answers s (d ∷ ds) =
-    if fits d s then
+    when fits d s then
     done forms (answered_of ls (answers ++ (s ∷ [])) ds)
     else refuse unfit forms (answering ls answers)
 
 -- in Answering only 1, 2 and 13 apply
 unfoldable pub in_answering : List Form → List FormLine → List (List ℕ) → List ℕ → Outcome
 in_answering forms ls answers s =
-    if long s then
+    when long s then
     refuse too_long forms (answering ls answers)
     else
-    if control s then
+    when control s then
     refuse control_byte forms (answering ls answers)
     else answered forms ls answers s (drop (length answers) (asked ls))
 
@@ -204,7 +205,7 @@ hear width room b s = heard width room b.forms b.session (kept s)
 
 -- after the last set Idle, else the next
 unfoldable pub after_set : List FormLine → List (List ℕ) → (n c i : ℕ) → Session
-after_set ls answers n c i = if eqb (suc i) n then idle else printing ls answers n c (suc i)
+after_set ls answers n c i = when eqb (suc i) n then idle else printing ls answers n c (suc i)
 
 -- a take in each state
 unfoldable pub taken : (room : ℕ) → List Form → Session → Outcome

@@ -1,5 +1,5 @@
 -- Bytes: the few words that every chapter of the paper uses. A byte is a number below 256; text is a list of bytes.
-pub use Rattle.std.specs.Prelude.{ℕ, zero, suc, ◌+◌, ◌-◌, ◌*◌, ◌/◌, ◌%◌, ◌^◌, ◌≤◌, ◌<◌, Bool, true, false, ◌||◌, ◌&&◌, not, List, [], ◌∷◌, ◌++◌, map, length, drop, replicate, take, ltb, eqb, leb, ◌≡◌}
+use Rattle.std.specs.Prelude.{ℕ, zero, suc, ◌+◌, ◌-◌, ◌*◌, ◌/◌, ◌%◌, ◌^◌, ◌≤◌, ◌<◌, Bool, true, false, ◌||◌, ◌&&◌, not, List, [], ◌∷◌, ◌++◌, map, length, drop, replicate, take, ltb, eqb, leb, ◌≡◌}
 pub use Prim.Native.Char.{code}
 pub use Prim.Native.String.{String}
 pub use Rattle.std.proofs.Math.Option.{Option, none, some}
@@ -10,11 +10,11 @@ unfoldable pub bytes : String → List ℕ
 bytes Str.[] = []
 bytes (Str.◌∷◌ c s) = code c ∷ bytes s
 
-infix 5 if◌then◌else◌
+infix 5 when◌then◌else◌
 -- one of two, by a test
-unfoldable pub if◌then◌else◌ {ℓ} : {A : Type ℓ} → Bool → A → A → A
-if true then a else b = a
-if false then a else b = b
+unfoldable pub when◌then◌else◌ {ℓ} : {A : Type ℓ} → Bool → A → A → A
+when true then a else b = a
+when false then a else b = b
 
 -- a byte between two others, both included
 unfoldable pub between : ℕ → ℕ → ℕ → Bool

@@ -1,5 +1,6 @@
 -- Calls one after the other: their answers and the bench that they leave; and the calls that print a stored form.
-use Rattle.paper.specs.Byte.{ℕ, zero, suc, ◌-◌, ◌≤◌, true, List, [], ◌∷◌, ◌++◌, some, ◌≡◌}
+use Rattle.std.specs.Prelude.{ℕ, zero, suc, ◌-◌, ◌≤◌, true, List, [], ◌∷◌, ◌++◌, ◌≡◌}
+use Rattle.paper.specs.Byte.{some}
 use Rattle.paper.specs.Command.{Define, FormLine, file, recall, ask, print}
 use Rattle.paper.specs.Refusal.{Answer, accepted}
 use Rattle.paper.specs.Write.{normal}

@@ -5,7 +5,8 @@
 -- Others may change a tablet's answers to `FS` (10 and 17), `FE` (11), `FK` (19), `FI` (the names) and `FR` (12, or other lines
 -- under the name), with what follows from these, and the turn of its takes. From an accepted `FR` to the last set they change
 -- none of its other answers and none of its sets.
-use Rattle.paper.specs.Byte.{ℕ, zero, suc, Bool, true, false, not, ◌&&◌, ◌||◌, List, [], ◌∷◌, Option, none, some, ltb, eqb, if◌then◌else◌, same, ◌<◌, ◌≡◌}
+use Rattle.std.specs.Prelude.{ℕ, zero, suc, Bool, true, false, not, ◌&&◌, ◌||◌, List, [], ◌∷◌, ltb, eqb, ◌<◌, ◌≡◌}
+use Rattle.paper.specs.Byte.{Option, none, some, when◌then◌else◌, same}
 use Rattle.paper.specs.Line.{kept}
 use Rattle.paper.specs.Command.{FormLine, Filing, start, finish, inform, recall, delete, empty, new, keep, file, ask, print, star}
 use Rattle.paper.specs.Refusal.{Refusal, not_printing, others_collect, no_tablet, held_open, Answer, accepted, refused}
@@ -102,7 +103,7 @@ filing_read (unread r) = none
 
 -- a line to the store is the others' to forbid in Idle only: in other states it is 3, an answer, or the sender's own `FE`
 unfoldable pub filing_of : ℕ → Session → List ℕ → Option Filing
-filing_of width st s = if at_rest st then filing_read (read width (kept s)) else none
+filing_of width st s = when at_rest st then filing_read (read width (kept s)) else none
 
 -- it is `FS` of a name that is free
 unfoldable pub starts : List Form → Option Filing → Bool
@@ -134,10 +135,10 @@ renamed (some (delete name)) form = form
 -- what the others forbid: 17 to start while one of them collects, 19 to delete what one of them holds open
 unfoldable pub barred : Class → ℕ → Option Filing → Option Refusal
 barred c t f =
-    if starts c.forms f && another c t (λ x. collects x.session) then
+    when starts c.forms f && another c t (λ x. collects x.session) then
     some others_collect
     else
-    if another c t (λ x. holds_form x.session && strikes f x.form) then some held_open else none
+    when another c t (λ x. holds_form x.session && strikes f x.form) then some held_open else none
 
 -- a line on a bench of 01, unless it is forbidden
 unfoldable pub hear_unless : Option Refusal → (width room : ℕ) → Bench → List ℕ → Outcome
@@ -152,11 +153,11 @@ pub record Reply : Type 0 where
 
 -- what stands at one number changed, at every other as it was
 unfoldable pub seat : {A : Type 0} → ℕ → A → (ℕ → A) → ℕ → A
-seat t x f k = if eqb k t then x else f k
+seat t x f k = when eqb k t then x else f k
 
 -- a tablet in such a state knows the form that it holds
 unfoldable pub tablet_of : Session → List ℕ → Tablet
-tablet_of st form = record { session = st; form = if holds_form st then form else [] }
+tablet_of st form = record { session = st; form = when holds_form st then form else [] }
 
 -- the class after a call of one tablet has left its desk so
 unfoldable pub reply : Class → (t last : ℕ) → Option Filing → Outcome → Reply
@@ -182,11 +183,11 @@ hear_of width room c t s f = reply c t c.last f (hear_unless (barred c t f) widt
 -- a line with the number of its tablet; over 29 it is 18 before all else
 unfoldable pub hear_from : (width room : ℕ) → Class → ℕ → List ℕ → Reply
 hear_from width room c t s =
-    if ltb t thirty then hear_of width room c t s (filing_of width (c.tablet t).session s) else denied no_tablet c
+    when ltb t thirty then hear_of width room c t s (filing_of width (c.tablet t).session s) else denied no_tablet c
 
 -- the number after another, from 29 on to 0
 unfoldable pub onward : ℕ → ℕ
-onward k = if ltb k 29 then suc k else 0
+onward k = when ltb k 29 then suc k else 0
 
 -- the first number after another that passes a test, of so many
 unfoldable pub first_after : (ℕ → Bool) → (count k : ℕ) → Option ℕ
@@ -201,7 +202,7 @@ turn c = first_after (λ k. prints (c.tablet k).session) thirty c.last
 -- how many numbers below another pass a test
 unfoldable pub count_below : ℕ → (ℕ → Bool) → ℕ
 count_below zero test = 0
-count_below (suc k) test = if test k then suc (count_below k test) else count_below k test
+count_below (suc k) test = when test k then suc (count_below k test) else count_below k test
 
 -- how many tablets are in Printing
 unfoldable pub printers : Class → ℕ
@@ -260,7 +261,7 @@ served_in width c (q ∷ qs) =
 -- the place of a tablet's next set among accepted takes, counted from 1; where it is not among them, the one behind the last
 unfoldable pub wait : ℕ → List ℕ → ℕ
 wait t [] = 1
-wait t (u ∷ us) = if eqb t u then 1 else suc (wait t us)
+wait t (u ∷ us) = when eqb t u then 1 else suc (wait t us)
 
 -- a tablet is in Printing at every one of some calls
 unfoldable pub keeps_printing : (width t : ℕ) → Class → List Request → Bool

@@ -1,5 +1,6 @@
 -- The program of a class: input bytes to output bytes, a record for each input line. A set is taken only where a line asks for it.
-use Rattle.paper.specs.Byte.{ℕ, code, String, List, [], ◌∷◌, ◌++◌, length, Option, none, some, bytes, decimal}
+use Rattle.std.specs.Prelude.{ℕ, List, [], ◌∷◌, ◌++◌, length}
+use Rattle.paper.specs.Byte.{code, String, Option, none, some, bytes, decimal}
 use Rattle.paper.specs.Line.{lf, kept, cut, Got, got, bad, Reader, ◌>>=◌, ◌>>◌, give, ended, byte, number}
 use Rattle.paper.specs.Refusal.{Refusal, no_tablet, figures, Answer, accepted, refused}
 use Rattle.paper.specs.Read.{or_else, these}

@@ -1,5 +1,6 @@
 -- 'The commands of the profile': what a line says, and the ranges of the table over the label's width.
-use Rattle.paper.specs.Byte.{ℕ, ◌+◌, ◌-◌, code, Bool, true, ◌&&◌, ◌||◌, List, [], ◌∷◌, ◌++◌, length, leb, ltb, bytes, between, every, among, same}
+use Rattle.std.specs.Prelude.{ℕ, ◌+◌, ◌-◌, Bool, true, ◌&&◌, ◌||◌, List, [], ◌∷◌, ◌++◌, length, leb, ltb}
+use Rattle.paper.specs.Byte.{code, bytes, between, every, among, same}
 use Rattle.paper.specs.Line.{is_digit}
 
 -- a value by its number: `Cn` or `Vnn`

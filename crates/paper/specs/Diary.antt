@@ -1,5 +1,6 @@
 -- What a tablet of a class sends and gets while it holds a form open, and how an order stands in it.
-use Rattle.paper.specs.Byte.{ℕ, zero, suc, ◌-◌, ◌≤◌, Bool, true, false, List, [], ◌∷◌, ◌++◌, map, Option, none, some, eqb, if◌then◌else◌, ◌≡◌}
+use Rattle.std.specs.Prelude.{ℕ, zero, suc, ◌-◌, ◌≤◌, Bool, true, false, List, [], ◌∷◌, ◌++◌, map, eqb, ◌≡◌}
+use Rattle.paper.specs.Byte.{Option, none, some, when◌then◌else◌}
 use Rattle.paper.specs.Line.{kept}
 use Rattle.paper.specs.Command.{Define, FormLine, Command, ask, print}
 use Rattle.paper.specs.Refusal.{Answer, accepted, refused}
@@ -36,8 +37,8 @@ diary width t c [] = []
 diary width t c (q ∷ qs) =
     let r : Reply = reply_to width c q in
     let later : List Entry = diary width t r.next qs in
-    if holds_form (c.tablet t).session then
-    (if is_for t r.whose then (record { call = call_of q; answer = r.answer } ∷ later) else later)
+    when holds_form (c.tablet t).session then
+    (when is_for t r.whose then (record { call = call_of q; answer = r.answer } ∷ later) else later)
     else []
 
 -- its lines, without what is dropped of them
@@ -89,7 +90,7 @@ sets_due (printing ls answers n c i) = sets_from ls answers c i (n - i)
 -- the sets that lines order: those up to `P` lead to them, and later ones add none
 unfoldable pub ordered : ℕ → Session → List (List ℕ) → List (List ℕ)
 ordered width st [] = sets_due st
-ordered width st (s ∷ ss) = if prints st then sets_due st else ordered width (heard width 0 [] st s).next.session ss
+ordered width st (s ∷ ss) = when prints st then sets_due st else ordered width (heard width 0 [] st s).next.session ss
 
 -- what an order needs of a tablet: a command in any spelling, an answer, a take with room for every set
 pub data Need : Type 0 where

@@ -1,5 +1,6 @@
 -- 'The form store': a form's text and its limits, the rules of a sound form, the stored forms and the reply to `FI`.
-use Rattle.paper.specs.Byte.{ℕ, zero, suc, ◌+◌, ◌-◌, Bool, true, false, not, ◌&&◌, ◌||◌, List, [], ◌∷◌, ◌++◌, map, Option, none, some, length, leb, ltb, eqb, bytes, if◌then◌else◌, same}
+use Rattle.std.specs.Prelude.{ℕ, zero, suc, ◌+◌, ◌-◌, Bool, true, false, not, ◌&&◌, ◌||◌, List, [], ◌∷◌, ◌++◌, map, length, leb, ltb, eqb}
+use Rattle.paper.specs.Byte.{Option, none, some, bytes, when◌then◌else◌, same}
 use Rattle.paper.specs.Line.{lf}
 use Rattle.paper.specs.Command.{Value, counter, variable, Content, text, shown, joined, Draw, size, direction, put, bar, frame, Define, counting, varying, FormLine, draw, define, keep, all}
 use Rattle.paper.specs.Write.{lines_text}
@@ -38,7 +39,7 @@ same_value (variable n) (variable m) = eqb n m
 -- the first definition of a value
 unfoldable pub defined : Value → List Define → Option Define
 defined v [] = none
-defined v (d ∷ ds) = if same_value v (value_of d) then some d else defined v ds
+defined v (d ∷ ds) = when same_value v (value_of d) then some d else defined v ds
 
 -- there is one
 unfoldable pub is_some {ℓ} : {A : Type ℓ} → Option A → Bool
@@ -102,7 +103,7 @@ rules k above line = in_place k line ∷ value_sound above line
 
 -- the first line that breaks a rule, counted from 1; a missing line 1 or 2 breaks its rule like a wrong one
 unfoldable pub first_broken : ℕ → List Define → List FormLine → Option ℕ
-first_broken k above [] = if ltb k 2 then some (suc k) else none
+first_broken k above [] = when ltb k 2 then some (suc k) else none
 first_broken k above (l ∷ ls) =
     elim (all (rules k above l)) [ true ↦ first_broken (suc k) (above ++ asked (l ∷ [])) ls | false ↦ some (suc k) ]
 
@@ -118,12 +119,12 @@ pub record Form : Type 0 where
 -- the lines of the form of a name
 unfoldable pub find : List ℕ → List Form → Option (List FormLine)
 find name [] = none
-find name (f ∷ fs) = if same name f.name then some f.lines else find name fs
+find name (f ∷ fs) = when same name f.name then some f.lines else find name fs
 
 -- the forms but that of a name, in their order
 unfoldable pub without : List ℕ → List Form → List Form
 without name [] = []
-without name (f ∷ fs) = if same name f.name then without name fs else (f ∷ without name fs)
+without name (f ∷ fs) = when same name f.name then without name fs else (f ∷ without name fs)
 
 -- the bytes of the stored texts
 unfoldable pub used : List Form → ℕ

@@ -1,5 +1,6 @@
 -- 'Three lines that always free the bench' (L12): a line of the single byte 01H, behind whatever waits of an unfinished line; `FE`; and `N`.
-use Rattle.paper.specs.Byte.{ℕ, List, [], ◌∷◌, ◌++◌, false, eqb, ◌<◌, ◌≡◌, bytes, if◌then◌else◌}
+use Rattle.std.specs.Prelude.{ℕ, List, [], ◌∷◌, ◌++◌, false, eqb, ◌<◌, ◌≡◌}
+use Rattle.paper.specs.Byte.{bytes, when◌then◌else◌}
 use Rattle.paper.specs.Line.{lf, kept, long}
 use Rattle.paper.specs.Refusal.{Refusal, too_long, control_byte, not_now, is_spoiled, Answer, accepted, refused}
 use Rattle.paper.specs.Bench.{Session, idle}
@@ -24,11 +25,11 @@ three_among t waiting a b c xs ys zs =
 
 -- what the first is answered: 1 if more than 255 bytes wait that are not dropped, else 2
 unfoldable pub why_broken : List ℕ → Refusal
-why_broken waiting = if long (kept (broken waiting)) then too_long else control_byte
+why_broken waiting = when long (kept (broken waiting)) then too_long else control_byte
 
 -- and the second: 8 if the tablet was collecting a form, which is spoiled by then, else 3
 unfoldable pub why_finish : Session → Refusal
-why_finish st = if collects st then is_spoiled else not_now
+why_finish st = when collects st then is_spoiled else not_now
 
 -- what the three lines are answered, one by one; the last is accepted with nothing to write
 unfoldable pub freeing_answers : Session → (waiting : List ℕ) → List Answer

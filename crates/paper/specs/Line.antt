@@ -1,6 +1,7 @@
 -- 'Lines and strings': how input falls into lines, how the parts of a line are read, and how a string is written.
 -- A line is what remains of it after dropping CR and 1AH, without its LF.
-use Rattle.paper.specs.Byte.{ℕ, zero, suc, ◌+◌, ◌-◌, ◌*◌, code, Bool, true, false, ◌||◌, List, [], ◌∷◌, ◌++◌, length, ltb, eqb, if◌then◌else◌, between, any}
+use Rattle.std.specs.Prelude.{ℕ, zero, suc, ◌+◌, ◌-◌, ◌*◌, Bool, true, false, ◌||◌, List, [], ◌∷◌, ◌++◌, length, ltb, eqb}
+use Rattle.paper.specs.Byte.{code, when◌then◌else◌, between, any}
 
 -- the byte that ends a line
 abbrev pub lf : ℕ
@@ -13,7 +14,7 @@ is_dropped b = eqb b 0x0d || eqb b 0x1a
 -- dropping CR and 1AH wherever they stand
 unfoldable pub kept : List ℕ → List ℕ
 kept [] = []
-kept (b ∷ s) = if is_dropped b then kept s else (b ∷ kept s)
+kept (b ∷ s) = when is_dropped b then kept s else (b ∷ kept s)
 
 -- a byte in front of the first of some lines; where there is none the byte belongs to no line
 unfoldable pub infront : ℕ → List (List ℕ) → List (List ℕ)
@@ -23,7 +24,7 @@ infront b (s ∷ ss) = (b ∷ s) ∷ ss
 -- the lines of a text, each ended by LF; bytes after the last LF are not a line
 unfoldable pub cut : List ℕ → List (List ℕ)
 cut [] = []
-cut (b ∷ s) = if eqb b lf then ([] ∷ cut s) else infront b (cut s)
+cut (b ∷ s) = when eqb b lf then ([] ∷ cut s) else infront b (cut s)
 
 -- what remains is over 256 bytes
 unfoldable pub long : List ℕ → Bool
@@ -69,7 +70,7 @@ ended a (b ∷ s) = bad
 -- a byte that passes a test
 unfoldable pub one : (ℕ → Bool) → Reader ℕ
 one test [] = bad
-one test (b ∷ s) = if test b then got b s else bad
+one test (b ∷ s) = when test b then got b s else bad
 
 -- this very byte
 unfoldable pub byte : ℕ → Reader ℕ
@@ -151,7 +152,7 @@ string = do
 -- the escaping of the normal form: only quote and backslash
 unfoldable pub escape : List ℕ → List ℕ
 escape [] = []
-escape (b ∷ s) = if eqb b quote || eqb b backslash then (backslash ∷ b ∷ escape s) else (b ∷ escape s)
+escape (b ∷ s) = when eqb b quote || eqb b backslash then (backslash ∷ b ∷ escape s) else (b ∷ escape s)
 
 -- a string in normal form
 unfoldable pub quoted : List ℕ → List ℕ

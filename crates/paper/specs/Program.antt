@@ -1,5 +1,6 @@
 -- 'The program and one whole run': input bytes to output bytes and error bytes.
-use Rattle.paper.specs.Byte.{ℕ, zero, suc, ◌-◌, code, List, [], ◌∷◌, ◌++◌, decimal}
+use Rattle.std.specs.Prelude.{ℕ, zero, suc, ◌-◌, List, [], ◌∷◌, ◌++◌}
+use Rattle.paper.specs.Byte.{code, decimal}
 use Rattle.paper.specs.Line.{lf, kept, cut}
 use Rattle.paper.specs.Refusal.{figures, Answer, accepted, refused}
 use Rattle.paper.specs.Bench.{Session, idle, collecting, spoiled, opened, answering, ready, printing, Bench, begin, Outcome, hear, take_set}

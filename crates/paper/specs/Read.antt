@@ -1,5 +1,6 @@
 -- Reading a line: its leading letters, then its shape to the end, then its ranges give one command or one refusal.
-use Rattle.paper.specs.Byte.{ℕ, zero, suc, code, String, List, [], ◌∷◌, eqb, bytes, if◌then◌else◌, among}
+use Rattle.std.specs.Prelude.{ℕ, zero, suc, List, [], ◌∷◌, eqb}
+use Rattle.paper.specs.Byte.{code, String, bytes, when◌then◌else◌, among}
 use Rattle.paper.specs.Line.{Got, got, bad, Reader, ◌>>=◌, ◌>>◌, give, ended, one, byte, comma, part, digit, two_digits, number, letter, string, long, control}
 use Rattle.paper.specs.Command.{Value, counter, variable, Content, text, shown, joined, Setting, Pen, black, flip, white, size, direction, put, bar, frame, Step, up, down, counting, varying, draw, define, Filing, start, finish, inform, recall, delete, Command, empty, new, keep, file, ask, print, in_range}
 use Rattle.paper.specs.Refusal.{Refusal, too_long, control_byte, unknown, malformed, out_of_range}
@@ -15,7 +16,7 @@ font = or_else number (letter >> give 0)
 -- a sign and a number as a step; `-0` is `+0`
 unfoldable pub step_of : ℕ → ℕ → Step
 step_of sign zero = up 0
-step_of sign (suc n) = if eqb sign (code "+") then up (suc n) else down (suc n)
+step_of sign (suc n) = when eqb sign (code "+") then up (suc n) else down (suc n)
 
 -- a step: a sign and then a number
 unfoldable pub step : Reader Step
@@ -195,10 +196,10 @@ pub data Reading : Type 0 where
 
 -- the ranges are judged last
 unfoldable pub judged : ℕ → Shape → Reading
-judged width (shaped c) = if in_range width c then command c else unread out_of_range
+judged width (shaped c) = when in_range width c then command c else unread out_of_range
 judged width strange = unread unknown
 judged width broken = unread malformed
 
 -- a line over 256 bytes or with a byte below 20H is unread before anything of it is read
 unfoldable pub read : ℕ → List ℕ → Reading
-read width s = if long s then unread too_long else if control s then unread control_byte else judged width (shape s)
+read width s = when long s then unread too_long else when control s then unread control_byte else judged width (shape s)

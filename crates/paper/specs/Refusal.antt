@@ -1,5 +1,5 @@
 -- 'Refusals by number': a word for each refusal with its number, and the answer to a call.
-use Rattle.paper.specs.Byte.{ℕ, List, [], ◌∷◌, ◌++◌, length, drop}
+use Rattle.std.specs.Prelude.{ℕ, List, [], ◌∷◌, ◌++◌, length, drop}
 
 -- the refusals in the order of their numbers; the ninth names a line of the form
 pub data Refusal : Type 0 where

@@ -1,5 +1,6 @@
 -- Answers that fit, counters, and the print set: the end of 'The states'.
-use Rattle.paper.specs.Byte.{ℕ, zero, suc, ◌+◌, ◌-◌, ◌*◌, ◌^◌, code, Bool, true, false, ◌&&◌, List, [], ◌∷◌, ◌++◌, Option, none, some, length, replicate, leb, ltb, eqb, if◌then◌else◌, every, same, decimal}
+use Rattle.std.specs.Prelude.{ℕ, zero, suc, ◌+◌, ◌-◌, ◌*◌, ◌^◌, Bool, true, false, ◌&&◌, List, [], ◌∷◌, ◌++◌, length, replicate, leb, ltb, eqb}
+use Rattle.paper.specs.Byte.{code, Option, none, some, when◌then◌else◌, every, same, decimal}
 use Rattle.paper.specs.Line.{is_digit, cut}
 use Rattle.paper.specs.Command.{Value, Content, text, shown, joined, Draw, size, direction, put, bar, frame, Step, up, down, Define, counting, varying, FormLine, draw, define, Command, empty, new, keep, file, ask, print, is_shown}
 use Rattle.paper.specs.Read.{command, unread, read}
@@ -50,7 +51,7 @@ shows (varying n len letter prompt) a i = a
 unfoldable pub value_in : List Define → List (List ℕ) → ℕ → Value → List ℕ
 value_in [] given i v = []
 value_in (d ∷ ds) [] i v = []
-value_in (d ∷ ds) (a ∷ more) i v = if same_value v (value_of d) then shows d a i else value_in ds more i v
+value_in (d ∷ ds) (a ∷ more) i v = when same_value v (value_of d) then shows d a i else value_in ds more i v
 
 -- the text shown for a content: string and value are joined
 unfoldable pub filled : (Value → List ℕ) → Content → List ℕ

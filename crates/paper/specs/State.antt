@@ -1,5 +1,6 @@
 -- The states that calls lead to, and what holds of each of them.
-use Rattle.paper.specs.Byte.{ℕ, ◌-◌, ◌≤◌, ◌<◌, Bool, true, false, ◌&&◌, List, [], ◌∷◌, none, ◌≡◌, length, take}
+use Rattle.std.specs.Prelude.{ℕ, ◌-◌, ◌≤◌, ◌<◌, Bool, true, false, ◌&&◌, List, [], ◌∷◌, ◌≡◌, length, take}
+use Rattle.paper.specs.Byte.{none}
 use Rattle.paper.specs.Command.{Define, FormLine, keep, is_name, in_range}
 use Rattle.paper.specs.Form.{Form, within_limits, asked, unsound_at, find, used}
 use Rattle.paper.specs.Set.{fits, all_hold}

@@ -1,5 +1,6 @@
 -- The normal form of a command, and writing it into a lent buffer.
-use Rattle.paper.specs.Byte.{ℕ, ◌+◌, ◌/◌, ◌%◌, code, List, [], ◌∷◌, ◌++◌, length, leb, bytes, if◌then◌else◌, decimal}
+use Rattle.std.specs.Prelude.{ℕ, ◌+◌, ◌/◌, ◌%◌, List, [], ◌∷◌, ◌++◌, length, leb}
+use Rattle.paper.specs.Byte.{code, bytes, when◌then◌else◌, decimal}
 use Rattle.paper.specs.Line.{lf, quoted}
 use Rattle.paper.specs.Command.{Value, counter, variable, Content, text, shown, joined, Setting, Pen, black, flip, white, Draw, size, direction, put, bar, frame, Step, up, down, Define, counting, varying, FormLine, draw, define, Filing, start, finish, inform, recall, delete, Command, empty, new, keep, file, ask, print, in_range}
 use Rattle.paper.specs.Refusal.{Answer, accepted, refused, out_of_range, too_short}
@@ -95,8 +96,8 @@ normal (print n c) = bytes "P" ++ commas (decimal n ∷ decimal c ∷ [])
 -- writing into a buffer with so much room: 6 for a command that no line reads as, then 15 for a short buffer
 unfoldable pub write : (width room : ℕ) → Command → Answer
 write width room c =
-    if in_range width c then
-    if leb (length (normal c)) room then accepted (normal c) else refused too_short
+    when in_range width c then
+    when leb (length (normal c)) room then accepted (normal c) else refused too_short
     else refused out_of_range
 
 -- commands as text: each in normal form, with LF

@@ -9,7 +9,7 @@ use native.Mathlib.Omega.{arith}
 use lib.ListN.{length}
 use lib.Dec.{ltb}
 use borrow.Author.Tests.{ltb-true, ltb-false, le-ltb}
-use Rattle.paper.specs.Byte.{if◌then◌else◌, same}
+use Rattle.paper.specs.Byte.{when◌then◌else◌, same}
 use Rattle.paper.specs.Command.{FormLine}
 use Rattle.paper.specs.Form.{Form, is_some, text_of, find, without}
 use Rattle.paper.specs.Bench as P
@@ -19,7 +19,7 @@ use Rattle.paper.proofs.Law.{if_true, if_false}
 use Rattle.paper.proofs.Store.{same_sym, without_absent}
 use Rattle.paper.proofs.Test.{either}
 use Rattle.paper.proofs.Text.{same_eq}
-use Rattle.session.specs.Memory.{Session, drafts, drafting, place_of, holds, holding, packed_session, number_of}
+use Rattle.session.specs.Memory.{drafts, drafting, place_of, holds, holding, packed_session, number_of}
 use Rattle.session.specs.declared.state.Mode.{Mode}
 use Rattle.session.specs.declared.state.Mode.TheVariants as M
 use Rattle.session.specs.declared.state.Held.{Held}
@@ -107,7 +107,7 @@ moved width name form (f ∷ fs) gone all e apart =
 -- the numbers of a session that holds it open follow
 holds_lowered : (width : ℕ) (name form : List ℕ) (fs : List Form) (gone : List FormLine) (mode : Mode) (ls : List FormLine) (given : ℕ) → AllStored width fs → find name fs ≡ some gone → same name form ≡ false
     → holds mode (without name fs) (number_of form (without name fs)) ls given ≡ lowered (number_of name fs) (length (text_of gone)) (holds mode fs (number_of form fs) ls given)
-unfolding holds lowered if◌then◌else◌
+unfolding holds lowered when◌then◌else◌
 holds_lowered width name form fs gone mode ls given all e apart =
     let w = moved width name form fs gone all e apart in
     either (ltb (number_of name fs) (number_of form fs))

@@ -7,7 +7,7 @@ use native.Mathlib.Numerals.{add-one}
 use lib.ListN.{length, take, drop, get_or, set, length-set}
 use lib.Dec.{ltb, eqb}
 use borrow.Author.Tests.{lt-ltb, le-ltb, ltb-true, ltb-false, eqb-true, eqb-false}
-use Rattle.paper.specs.Byte.{if◌then◌else◌}
+use Rattle.paper.specs.Byte.{when◌then◌else◌}
 use Rattle.paper.specs.Class.{seat}
 use Rattle.paper.proofs.Law.{if_true, if_false}
 use Rattle.paper.proofs.Apart.{seat_own, seat_other}
@@ -36,7 +36,7 @@ module _ (held : List ℕ) (at n size : ℕ) where
 
 -- in memory a session follows so
 pub numbers_lowered : (h : ℕ → Held) (k n size : ℕ) → k < 30 → lowered_at n size (numbers_of h) (k * 10) ≡ numbers_of (seat k (lowered n size (h k)) h)
-unfolding lowered_at lowered held_in if◌then◌else◌
+unfolding lowered_at lowered held_in when◌then◌else◌
 numbers_lowered h k n size l =
     let before = take (k * 10) (numbers_of h) in
     let behind = drop (suc k * 10) (numbers_of h) in
@@ -51,7 +51,7 @@ numbers_lowered h k n size l =
 
 -- the sessions below a number have followed
 unfoldable pub lowered_below : (n size k : ℕ) → (ℕ → Held) → ℕ → Held
-lowered_below n size k h j = if ltb j k then lowered n size (h j) else h j
+lowered_below n size k h j = when ltb j k then lowered n size (h j) else h j
 
 below_start : (n size : ℕ) (h : ℕ → Held) (j : ℕ) → h j ≡ lowered_below n size 0 h j
 unfolding lowered_below

@@ -1,6 +1,6 @@
 -- The numbers of a session and of the store as they lie in memory.
 use Rattle.std.specs.Prelude.{ℕ, List, [], ◌∷◌, eqb}
-use Rattle.paper.specs.Byte.{if◌then◌else◌}
+use Rattle.paper.specs.Byte.{when◌then◌else◌}
 use Rattle.store.specs.Packed.{Store}
 use Rattle.session.specs.declared.state.Mode.{Mode}
 use Rattle.session.specs.declared.state.Mode.TheVariants as M
@@ -20,12 +20,12 @@ code_of (M.Printing sets copies out) = record { tag = 6; a = sets; b = copies; c
 -- and the state of four numbers
 unfoldable pub mode_of : (tag a b c : ℕ) → Mode
 mode_of tag a b c =
-    if eqb tag 1 then M.Collecting a
-    else if eqb tag 2 then M.Spoiled
-    else if eqb tag 3 then M.Opened
-    else if eqb tag 4 then M.Answering a
-    else if eqb tag 5 then M.Ready
-    else if eqb tag 6 then M.Printing a b c
+    when eqb tag 1 then M.Collecting a
+    else when eqb tag 2 then M.Spoiled
+    else when eqb tag 3 then M.Opened
+    else when eqb tag 4 then M.Answering a
+    else when eqb tag 5 then M.Ready
+    else when eqb tag 6 then M.Printing a b c
     else M.Idle
 
 -- the numbers of a session

@@ -1,7 +1,7 @@
 -- Thirty sessions in memory: their numbers lie one behind the other, ten for each tablet.
 use Rattle.std.specs.Prelude.{ℕ, zero, suc, ◌+◌, ◌-◌, Bool, false, not, ◌&&◌, ◌||◌, List, [], ◌++◌, ltb, eqb, get_or, set}
 use Rattle.std.proofs.Math.Option.{Option, none, some}
-use Rattle.paper.specs.Byte.{if◌then◌else◌, between}
+use Rattle.paper.specs.Byte.{when◌then◌else◌, between}
 use Rattle.session.specs.Memory.{Session}
 use Rattle.session.specs.declared.state.Held.{Held}
 use Rattle.seats.specs.Numbers.{code_of, held_in}
@@ -27,7 +27,7 @@ beside_below (suc k) t test = (not (eqb k t) && test k) || beside_below k t test
 -- the numbers of a session behind the leaving of form n, whose text has so many bytes
 unfoldable pub lowered : (n size : ℕ) → Held → Held
 lowered n size h =
-    if ltb n h.form then
+    when ltb n h.form then
     record {
       mode = h.mode;
       form = h.form - 1;
@@ -43,7 +43,7 @@ lowered n size h =
 -- so in memory, where those numbers begin at a place
 unfoldable pub lowered_at : (n size : ℕ) → List ℕ → (at : ℕ) → List ℕ
 lowered_at n size held at =
-    if ltb n (get_or held (at + 4) 0) then
+    when ltb n (get_or held (at + 4) 0) then
     set (set held (at + 4) (get_or held (at + 4) 0 - 1)) (at + 5) (get_or held (at + 5) 0 - size)
     else
     held

@@ -9,7 +9,7 @@ use lib.ListN.{length, take, drop, get_or, length-append}
 use lib.Seq.{take-append_seam, drop-append-add, get_or-take, get_or-drop}
 use lib.Dec.{leb, eqb}
 use borrow.Author.Tests.{leb-true}
-use Rattle.paper.specs.Byte.{if◌then◌else◌, same}
+use Rattle.paper.specs.Byte.{when◌then◌else◌, same}
 use Rattle.paper.specs.Command as P
 use Rattle.paper.specs.Command.{FormLine}
 use Rattle.paper.specs.Form.{Form, text_of, asked, find, used, within_limits}
@@ -148,7 +148,7 @@ lies_between (f ∷ before) here behind = lies_between before here behind
 
 -- a name that is free among some forms is free among the first of them
 free_first : (name : List ℕ) (fs gs : List Form) → find name (fs ++ gs) ≡ none → find name fs ≡ none
-unfolding find if◌then◌else◌
+unfolding find when◌then◌else◌
 free_first name [] gs e = refl
 free_first name (f ∷ fs) gs e =
     either (same name f.name) (λ y. absurd (some-ne-none _ (rw y at e))) (λ n. rw n (free_first name fs gs (rw n at e)))

@@ -9,7 +9,7 @@ use native.Mathlib.Omega.{arith}
 use lib.ListN.{length, take, length-append}
 use lib.Dec.{eqb}
 use borrow.Author.Tests.{eqb-true, eqb-false, eq-eqb, not-true}
-use Rattle.paper.specs.Byte.{if◌then◌else◌}
+use Rattle.paper.specs.Byte.{when◌then◌else◌}
 use Rattle.paper.specs.Command.{Value, counter, variable, Define, counting, varying, FormLine, draw, define, draw_ranges, define_ranges, ranges, all_of, in_range}
 use Rattle.paper.specs.Form.{asked, value_of, len_of, same_value, defined, value_sound, first_broken, unsound_at}
 use Rattle.paper.specs.Set.{fits}
@@ -53,7 +53,7 @@ slots_less kind size (suc k) above more =
 
 -- a value has a definition below those that lack it
 defined_here : (v : Value) (above : List Define) (d : Define) → same_value v (value_of d) ≡ true → defined v above ≡ none → defined v (above ++ (d ∷ [])) ≡ some d
-unfolding defined if◌then◌else◌
+unfolding defined when◌then◌else◌
 defined_here v [] d s e = rw s
 defined_here v (b ∷ above) d s e =
     either (same_value v (value_of b)) (λ y. absurd (some-ne-none _ (rw y at e))) (λ n. rw n (defined_here v above d s (rw n at e)))

@@ -1,7 +1,7 @@
 -- What memory holds is a function of the paper's state and of the number of the form that a session holds open: behind the used bytes
 -- all is 0.
 use Rattle.std.specs.Prelude.{ℕ, zero, suc, ◌+◌, ◌≡◌, List, [], ◌∷◌, ◌++◌, length, replicate}
-use Rattle.paper.specs.Byte.{if◌then◌else◌, same}
+use Rattle.paper.specs.Byte.{when◌then◌else◌, same}
 use Rattle.paper.specs.Command as C
 use Rattle.paper.specs.Command.{FormLine}
 use Rattle.paper.specs.Form.{Form, text_of, asked}
@@ -122,7 +122,7 @@ Opens fs n (P.printing ls given k c i) = Lies fs n ls
 -- the number of the form of a name, or how many there are
 unfoldable pub number_of : List ℕ → List Form → ℕ
 number_of name [] = 0
-number_of name (f ∷ fs) = if same name f.name then 0 else suc (number_of name fs)
+number_of name (f ∷ fs) = when same name f.name then 0 else suc (number_of name fs)
 
 -- one number in Idle, and another in every other state
 unfoldable pub if_idle : P.Session → ℕ → ℕ → ℕ

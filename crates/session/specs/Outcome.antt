@@ -1,6 +1,6 @@
 -- What a step promises: the paper's answer, the memory of the paper's next state, and the lent buffer.
 use Rattle.std.specs.Prelude.{ℕ, ◌≤◌, ◌<◌, ◌≡◌, true, ◌||◌, List, [], length, leb, ltb, eqb}
-use Rattle.paper.specs.Byte.{if◌then◌else◌, same}
+use Rattle.paper.specs.Byte.{when◌then◌else◌, same}
 use Rattle.paper.specs.Command as C
 use Rattle.paper.specs.Command.{Command, FormLine, keep, is_name, star}
 use Rattle.paper.specs.Form.{Form}
@@ -147,7 +147,7 @@ pub record Showing (session : Session) (all plans : List ℕ) : Type 0 where
 
 -- bytes for a lent buffer: refusal 15 where they have no room in it
 unfoldable pub handed : ℕ → List ℕ → R.Answer
-handed room bytes = if leb (length bytes) room then R.accepted bytes else R.refused R.too_short
+handed room bytes = when leb (length bytes) room then R.accepted bytes else R.refused R.too_short
 
 -- a set is handed on
 pub record Gives (text answers plan values : List ℕ) (copies i : ℕ) (old new : List ℕ) (r : Answer) : Type 0 where
@@ -167,15 +167,15 @@ pub record Advances (session : Session) (sets copies out : ℕ) (next : Session)
 
 -- the state of a form that asks for so much
 unfoldable pub opens_by : ℕ → Mode
-opens_by asked = if eqb asked 0 then M.Ready else M.Opened
+opens_by asked = when eqb asked 0 then M.Ready else M.Opened
 
 -- the state behind k answers of so many
 unfoldable pub waits_by : ℕ → ℕ → Mode
-waits_by k asked = if eqb k asked then M.Ready else M.Answering k
+waits_by k asked = when eqb k asked then M.Ready else M.Answering k
 
 -- why an answer of so many bytes is refused that does not fit
 unfoldable pub unfit_of : ℕ → Refusal
-unfit_of n = if ltb 256 n then W.TooLong else W.Unfit
+unfit_of n = when ltb 256 n then W.TooLong else W.Unfit
 
 -- in Answering a line is no command
 abbrev pub NotAnswering : Mode → Type 0

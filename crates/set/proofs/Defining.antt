@@ -8,7 +8,7 @@ use native.Mathlib.Omega.{arith}
 use lib.ListN.{length}
 use lib.Dec.{leb, ltb}
 use borrow.Author.Tests.{leb-true, lt-ltb, le-leb, ne_eqb}
-use Rattle.paper.specs.Byte.{if◌then◌else◌, every, between}
+use Rattle.paper.specs.Byte.{when◌then◌else◌, every, between}
 use Rattle.paper.specs.Line.{is_digit, escape}
 use Rattle.paper.specs.Command as P
 use Rattle.paper.specs.Command.{define_ranges, step_range, all_of}
@@ -71,7 +71,7 @@ first_small (P.varying n len letter prompt) a place e f k = absurd (k refl)
 
 -- digits need no escaping
 pub escape_digits : (s : List ℕ) → every is_digit s ≡ true → escape s ≡ s
-unfolding escape every is_digit between if◌then◌else◌
+unfolding escape every is_digit between when◌then◌else◌
 escape_digits [] e = refl
 escape_digits (b ∷ s) e =
     let digit = and_left (leb 48 b && leb b 57) (every is_digit s) e in
@@ -82,7 +82,7 @@ escape_digits (b ∷ s) e =
 -- the four numbers show what the definition does
 pub show_same : (answers : List ℕ) (d : P.Define) (a : List ℕ) (place i : ℕ) → part_of answers place (place + length a) ≡ a
     → four_show answers (first_of d a place) (second_of d a place) (kind_of d) (step_size d) i ≡ escape (shows d a i)
-unfolding four_show first_of second_of kind_of step_size shows count_at value_at if◌then◌else◌
+unfolding four_show first_of second_of kind_of step_size shows count_at value_at when◌then◌else◌
 show_same answers (P.counting n len letter (P.up by) prompt) a place i e =
     sym (escape_digits _ (counter_digits n len letter (P.up by) prompt a i).0)
 show_same answers (P.counting n len letter (P.down by) prompt) a place i e =
@@ -105,7 +105,7 @@ down_holds len n start last h = rw (lt-ltb (start - last * n) (10 ^ len) (omega 
 
 -- and in the last where its numbers do
 pub hold_same : (d : P.Define) (a : List ℕ) (place last : ℕ) → fits d a ≡ true → holds_in (kind_of d) (len_of d) (step_size d) (first_of d a place) last ≡ holds_to last d a
-unfolding holds_in kind_of len_of step_size first_of holds_to if◌then◌else◌
+unfolding holds_in kind_of len_of step_size first_of holds_to when◌then◌else◌
 hold_same (P.counting n len letter (P.up by) prompt) a place last f =
     let below = fits_below n len letter (P.up by) prompt a f in
     rw (holds_first len (P.up by) (amount 0 a) below) (up_holds len by (amount 0 a) last)

@@ -7,7 +7,7 @@ use native.Mathlib.Omega.{arith}
 use lib.ListN.{length, take, drop, get_or, length-append}
 use lib.Dec.{leb, ltb}
 use borrow.Author.Tests.{eq-eqb, ne_eqb}
-use Rattle.paper.specs.Byte.{if◌then◌else◌, decimal}
+use Rattle.paper.specs.Byte.{when◌then◌else◌, decimal}
 use Rattle.paper.specs.Line.{escape}
 use Rattle.paper.specs.Set.{padded}
 use Rattle.paper.proofs.Law.{if_true, if_false}
@@ -232,13 +232,13 @@ module _ (plan values : List ℕ) (last count : ℕ) where
   deciding_begins = let all : count - 0 ≡ count = omega arith in record { same = rw all; inside = omega arith }
 
   module _ (k : ℕ) (d : Deciding plan values last count k) where
-    next_define : k < count → hold_from plan values last 0 count ≡ (if holds_at plan values k last then hold_from plan values last (k + 1) (count - (k + 1)) else false)
-    unfolding hold_from if◌then◌else◌
+    next_define : k < count → hold_from plan values last 0 count ≡ (when holds_at plan values k last then hold_from plan values last (k + 1) (count - (k + 1)) else false)
+    unfolding hold_from when◌then◌else◌
     next_define h =
         let one : count - k ≡ suc (count - (k + 1)) = omega arith in
         d.same ∙ rw one (both (holds_at plan values k last) (hold_from plan values last (k + 1) (count - (k + 1))))
       where
-        both : (s t : Bool) → (s && t) ≡ (if s then t else false)
+        both : (s t : Bool) → (s && t) ≡ (when s then t else false)
         both true t = refl
         both false t = refl
 

@@ -1,6 +1,6 @@
 -- A store's memory as a function of the forms that it holds: names and texts one behind the other, and 0 behind them.
 use Rattle.std.specs.Prelude.{ℕ, suc, ◌+◌, ◌*◌, ◌≤◌, List, [], ◌∷◌, ◌++◌, map, length, take, drop, replicate, ◌≡◌}
-use Rattle.paper.specs.Byte.{bytes, if◌then◌else◌, same}
+use Rattle.paper.specs.Byte.{bytes, when◌then◌else◌, same}
 use Rattle.paper.specs.Line.{lf}
 use Rattle.text.specs.Write.{padded}
 use Rattle.store.specs.declared.Found.{Found}
@@ -70,7 +70,7 @@ pub record Kept (self : Store) : Type 0 where
 unfoldable pub find_from : (i start : ℕ) → List ℕ → List Entry → Found
 find_from i start name [] = Absent
 find_from i start name (e ∷ es) =
-    if same name e.name then
+    when same name e.name then
     At i start (length e.text)
     else find_from (suc i) (start + length e.text) name es
 

@@ -6,7 +6,7 @@ use native.Mathlib.Omega.{arith}
 use native.Mathlib.Nat.{suc-mul, zero-mul}
 use lib.ListN.{set, replicate, length-replicate, replicate-append-replicate}
 use lib.Seq.{set-append_seam}
-use Rattle.paper.specs.Byte.{if◌then◌else◌}
+use Rattle.paper.specs.Byte.{when◌then◌else◌}
 use Rattle.paper.specs.Class.{thirty, begin_class, prints, count_below, printers}
 use Rattle.text.specs.Write.{padded}
 use Rattle.store.specs.Packed.{texts_of, names_of, packed}
@@ -63,7 +63,7 @@ zeros_laid last =
 
 -- nobody prints yet
 nobody_prints : printers begin_class ≡ 0
-unfolding printers count_below thirty prints begin_class if◌then◌else◌
+unfolding printers count_below thirty prints begin_class when◌then◌else◌
 nobody_prints = refl
 
 -- so they are a class that begins

@@ -9,7 +9,7 @@ use lib.ListN.{length}
 use lib.Seq.{take-append_seam}
 use lib.Dec.{ltb, eqb}
 use borrow.Author.Tests.{ltb-false, ne_eqb}
-use Rattle.paper.specs.Byte.{if◌then◌else◌}
+use Rattle.paper.specs.Byte.{when◌then◌else◌}
 use Rattle.paper.specs.Refusal as R
 use Rattle.paper.specs.Form.{Form, is_some}
 use Rattle.paper.specs.Bench as P
@@ -40,7 +40,7 @@ meets_told (R.refused r) old new (A.Refused why) m = ap R.refused m.reports
 
 -- a line is for its sender
 line_whose : (t u room : ℕ) (c : Class) (s : List ℕ) → t < 30 → eqb t u ≡ is_for t (hear_from width room c u s).whose
-unfolding hear_from hear_of reply denied is_for thirty if◌then◌else◌
+unfolding hear_from hear_of reply denied is_for thirty when◌then◌else◌
 line_whose t u room c s l =
     either (ltb u 30) (λ y. rw y) (λ n. let over = ltb-false u 30 n in rw n (ne_eqb t u (omega arith)))
 

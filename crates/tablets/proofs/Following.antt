@@ -8,7 +8,7 @@ use native.Mathlib.Omega.{arith}
 use lib.ListN.{length, take, drop, get_or, length-append, length-drop}
 use lib.Seq.{take_at, drop_at}
 use lib.Dec.{eqb}
-use Rattle.paper.specs.Byte.{if◌then◌else◌, every, same}
+use Rattle.paper.specs.Byte.{when◌then◌else◌, every, same}
 use Rattle.paper.specs.Line.{kept}
 use Rattle.paper.specs.Command as C
 use Rattle.paper.specs.Command.{is_shown, Filing, delete, star}
@@ -81,7 +81,7 @@ module _ (c : Class) (sane : SaneClass width c) (t : ℕ) (l : t < 30) (s : List
 
   -- the form has left, and the tablet is Idle
   left : leaving ≡ P.done (without takes.name c.forms) P.idle
-  unfolding filing_of at_rest if◌then◌else◌ P.deleted
+  unfolding filing_of at_rest when◌then◌else◌ P.deleted
   left =
       let reads : filing_read (read width (kept s)) ≡ some (delete takes.name) = sym (if_true _ _ none (ap at_rest rest)) ∙ takes.is in
       ap (λ st. P.hear width room (record { forms = c.forms; session = st }) s) rest

@@ -7,7 +7,7 @@ use mathlib.Core.Option.{none, some}
 use lib.ListN.{length, take, get_or}
 use lib.Dec.{eqb}
 use borrow.Author.Tests.{eqb-true, lt-ltb, le-ltb}
-use Rattle.paper.specs.Byte.{if◌then◌else◌, every}
+use Rattle.paper.specs.Byte.{when◌then◌else◌, every}
 use Rattle.paper.specs.Line.{kept, long, control}
 use Rattle.paper.specs.Command.{is_shown}
 use Rattle.paper.specs.Refusal as R
@@ -30,7 +30,6 @@ use Rattle.command.specs.declared.Refusal.{Refusal}
 use Rattle.command.specs.declared.Refusal.TheVariants as W
 use Rattle.store.specs.Lent.{store_of}
 use Rattle.store.specs.declared.Filed.{Filed}
-use Rattle.session.specs.Memory.{Session}
 use Rattle.call.specs.Call.{Memory}
 use Rattle.call.proofs.Calling.{ReadsFiled}
 use Rattle.lend.specs.Laid.{SeatHears}
@@ -109,7 +108,7 @@ fault_hears self t l s line n old mid r w c h k₀ =
 module _ (c : Class) (sane : SaneClass width c) (t : ℕ) (l : t < 30) (s : List ℕ) (room : ℕ) (rest : (c.tablet t).session ≡ P.idle) (why : R.Refusal)
     (bar : barred c t (filing_of width (c.tablet t).session s) ≡ some why) where
   barred_reply : hear_from width room c t s ≡ reply c t c.last (filing_of width (c.tablet t).session s) (P.refuse why c.forms (c.tablet t).session)
-  unfolding hear_from hear_of hear_unless desk thirty if◌then◌else◌
+  unfolding hear_from hear_of hear_unless desk thirty when◌then◌else◌
   barred_reply = rw (lt-ltb t 30 l, bar) refl
 
   barred_says : (hear_from width room c t s).answer ≡ R.refused why
@@ -118,11 +117,11 @@ module _ (c : Class) (sane : SaneClass width c) (t : ℕ) (l : t < 30) (s : List
 
   -- the tablet is left as it was
   barred_tablet : (form : List ℕ) → tablet_of (P.after_refusal (c.tablet t).session) form ≡ c.tablet t
-  unfolding tablet_of P.after_refusal holds_form open_lines is_some if◌then◌else◌
+  unfolding tablet_of P.after_refusal holds_form open_lines is_some when◌then◌else◌
   barred_tablet form =
       let named : (c.tablet t).form ≡ [] = sane.nameless t l (rw rest) in
       let afterwards : (c.tablet t).session ≡ P.after_refusal (c.tablet t).session = rw rest in
-      let unnamed : (c.tablet t).form ≡ (if holds_form (P.after_refusal (c.tablet t).session) then form else []) = rw rest named in
+      let unnamed : (c.tablet t).form ≡ (when holds_form (P.after_refusal (c.tablet t).session) then form else []) = rw rest named in
       sym (λ j. record { session = afterwards j; form = unnamed j })
 
   barred_same : (j : ℕ) → (reply c t c.last (filing_of width (c.tablet t).session s) (P.refuse why c.forms (c.tablet t).session)).next.tablet j ≡ c.tablet j

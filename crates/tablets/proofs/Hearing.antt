@@ -9,12 +9,10 @@ use native.Mathlib.Omega.{arith}
 use lib.ListN.{length, get_or, set, length-append, get_or-append}
 use lib.Seq.{get_or_at, get_or-append-add}
 use lib.Dec.{eqb}
-use borrow.Author.Tests.{lt-ltb}
-use Rattle.paper.specs.Byte.{if◌then◌else◌}
 use Rattle.paper.specs.Line.{kept}
 use Rattle.paper.specs.Command.{Filing}
 use Rattle.paper.specs.Bench as P
-use Rattle.paper.specs.Class.{Class, desk, thirty, prints, printers, filing_of, barred, hear_unless, Reply, seat, reply, hear_of, hear_from, SaneClass}
+use Rattle.paper.specs.Class.{Class, thirty, prints, printers, filing_of, barred, Reply, seat, reply, hear_from, SaneClass}
 use Rattle.paper.proofs.Test.{either}
 use Rattle.paper.proofs.Apart.{seat_own, seat_other, reply_session, free_reply}
 use Rattle.paper.proofs.Changes.{line_changes}

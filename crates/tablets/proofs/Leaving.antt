@@ -29,7 +29,7 @@ use Rattle.text.specs.Place.{byte_at}
 use Rattle.store.specs.Packed.{Store, packed}
 use Rattle.store.specs.Lent.{store_of}
 use Rattle.store.specs.declared.Filed.{Filed}
-use Rattle.session.specs.Memory.{Session, drafting, drafts, holding, holds, packed_session, packed_shelf, entries_of, number_of}
+use Rattle.session.specs.Memory.{drafting, drafts, holding, holds, packed_session, packed_shelf, entries_of, number_of}
 use Rattle.wait.specs.Waiting.{Waits}
 use Rattle.line.proofs.Filing.{read_leads}
 use Rattle.seats.specs.Numbers.{code_of, filed_in}

@@ -4,7 +4,7 @@ use mathlib.Core.Bool.{false, true≢false}
 use mathlib.Core.List.{List, []}
 use mathlib.Core.Option.{none, some}
 use Prim.Native.Nat.{ℕ}
-use Rattle.paper.specs.Byte.{if◌then◌else◌}
+use Rattle.paper.specs.Byte.{when◌then◌else◌}
 use Rattle.paper.specs.Line.{kept}
 use Rattle.paper.specs.Command.{Filing, start, finish, inform, recall, delete, empty, new, keep, file, ask, print}
 use Rattle.paper.specs.Read.{Reading, command, unread, read}
@@ -62,7 +62,7 @@ module _ (fs : List Form) (form : List ℕ) where
 
   -- so the number is the name's
   number_named : (st : Session) (s : List ℕ) → number_of (renamed (filing_of width st s) form) fs ≡ after_line (number_of form fs) fs st (kept s)
-  unfolding filing_of at_rest if◌then◌else◌ after_line renamed if_idle
+  unfolding filing_of at_rest when◌then◌else◌ after_line renamed if_idle
   number_named idle s = reading_named (read width (kept s))
   number_named (collecting name ls) s = sym (reading_stays (collecting name ls) (λ a b. refl) (number_of form fs) (read width (kept s)))
   number_named spoiled s = sym (reading_stays spoiled (λ a b. refl) (number_of form fs) (read width (kept s)))

@@ -13,7 +13,7 @@ use Rattle.paper.specs.Form.{Form}
 use Rattle.paper.specs.Refusal as R
 use Rattle.paper.specs.Bench as P
 use Rattle.paper.specs.Class.{Class, desk, thirty, prints, printers, holds_form, renamed, Reply, seat, tablet_of, reply, denied, first_after, turn, last_after, serve, take_next}
-use Rattle.paper.proofs.Law.{by_test, if_true}
+use Rattle.paper.proofs.Law.{if_true}
 use Rattle.paper.proofs.Test.{either}
 use Rattle.paper.proofs.Invariant.{take_forms}
 use Rattle.paper.proofs.Apart.{seat_own, seat_other, reply_session}

@@ -1,6 +1,6 @@
 -- The memory of a class, and what a call promises from memory that calls lead to.
 use Rattle.std.specs.Prelude.{ℕ, zero, suc, ◌+◌, ◌-◌, ◌≡◌, List, length, ltb, eqb}
-use Rattle.paper.specs.Byte.{if◌then◌else◌}
+use Rattle.paper.specs.Byte.{when◌then◌else◌}
 use Rattle.paper.specs.Form.{Form}
 use Rattle.paper.specs.Read.{read}
 use Rattle.paper.specs.Program.{to_take}
@@ -50,7 +50,7 @@ pub record Warns (self : Memory) (t : ℕ) (s : List ℕ) (g : Guard) : Type 0 w
 
 -- so many print behind a step of a tablet from a state of one tag to a state of another
 unfoldable pub recounted : (n was is : ℕ) → ℕ
-recounted n was is = if eqb was is then n else (if eqb was 6 then n - 1 else (if eqb is 6 then n + 1 else n))
+recounted n was is = when eqb was is then n else (when eqb was 6 then n - 1 else (when eqb is 6 then n + 1 else n))
 
 -- `take`: the same of a set, and the tablet whose set it is, 30 where nobody prints
 pub record TakesSet (self : Memory) (old : List ℕ) (next : Memory) (new : List ℕ) (served : ℕ) (r : Answer) : Type 0 where
@@ -61,7 +61,7 @@ pub record TakesSet (self : Memory) (old : List ℕ) (next : Memory) (new : List
 
 -- the sets that a tablet has left to be taken; none where there is no such tablet
 unfoldable pub left_of : Class → ℕ → ℕ
-left_of c t = if ltb t thirty then to_take (c.tablet t).session else 0
+left_of c t = when ltb t thirty then to_take (c.tablet t).session else 0
 
 -- those of so many tablets together
 unfoldable pub left_below : ℕ → Class → ℕ

@@ -1,7 +1,7 @@
 -- Calls that were made of the code, one after the other: what went into each of them, what came out, and that each is as
 -- promised. And what the calls told of each tablet, as the paper's diary has it.
 use Rattle.std.specs.Prelude.{ℕ, ◌*◌, ◌≡◌, Bool, true, ◌&&◌, List, [], ◌∷◌, length, take, get_or, ltb, eqb}
-use Rattle.paper.specs.Byte.{if◌then◌else◌}
+use Rattle.paper.specs.Byte.{when◌then◌else◌}
 use Rattle.paper.specs.Line.{kept}
 use Rattle.paper.specs.Command.{file, recall}
 use Rattle.paper.specs.Read.{command, read}
@@ -135,7 +135,7 @@ unfoldable pub diary_of : ℕ → Memory → List Made → List Entry
 diary_of t self [] = []
 diary_of t self (m ∷ ms) =
     let later : List Entry = diary_of t m.next ms in
-    if holds_in self t then (if eqb t m.whose then (entry_of m ∷ later) else later) else []
+    when holds_in self t then (when eqb t m.whose then (entry_of m ∷ later) else later) else []
 
 -- its lines among them, without what is dropped of them
 abbrev pub lines_for : ℕ → Memory → List Made → List (List ℕ)

@@ -8,7 +8,7 @@ use lib.Dec.{eqb, leb}
 use lib.ListN.{length, drop_of_length-le}
 use lib.Seq.{drop-cons}
 use borrow.Author.Tests.{eq-eqb, ne_eqb, eqb-true, leb-true}
-use Rattle.paper.specs.Byte.{bytes, if◌then◌else◌, between}
+use Rattle.paper.specs.Byte.{bytes, when◌then◌else◌, between}
 use Rattle.paper.specs.Line.{Got, got, bad, Reader, followed, give, ended, one, byte, is_digit, digit, more_digits, number}
 use Rattle.paper.specs.Read.{these}
 use Rattle.paper.specs.Program.{enough}
@@ -58,11 +58,11 @@ more_small (suc k) n (b ∷ s) m r e h = go (is_digit b) refl (more_small k (n *
 
 -- a number of 1 to 5 digits is below 100,000
 number_small : (x : List ℕ) (m : ℕ) (r : List ℕ) → number x ≡ got m r → m < 100000
-unfolding number digit one followed give if◌then◌else◌
+unfolding number digit one followed give when◌then◌else◌
 number_small [] m r e = let z : ◌≡◌ {A = ℕ} 0 1 = cc in absurd (omega arith)
 number_small (b ∷ s) m r e = go (is_digit b) refl e
   where
-    go : (t : Bool) → is_digit b ≡ t → followed (followed (if t then got b s else bad) (λ c. give (c - 48))) (more_digits 4) ≡ got m r → m < 100000
+    go : (t : Bool) → is_digit b ≡ t → followed (followed (when t then got b s else bad) (λ c. give (c - 48))) (more_digits 4) ≡ got m r → m < 100000
     go true q p = more_small 4 (b - 48) s m r p (omega (arith, digit_small b q))
     go false q p = let z : ◌≡◌ {A = ℕ} 0 1 = cc in absurd (omega arith)
 
@@ -117,11 +117,11 @@ pub ruleset asking = (part_goes, part_fails, room_more, room_ends, room_none, ro
 
 -- a line that begins with the word of a take has no tablet's number in front
 word_first : (s : List ℕ) (n : ℕ) (x : List ℕ) → these (bytes "take") s ≡ got n x → tablet_line s ≡ bad
-unfolding these bytes byte one followed if◌then◌else◌ tablet_line number digit is_digit between give
+unfolding these bytes byte one followed when◌then◌else◌ tablet_line number digit is_digit between give
 word_first [] n x e = let z : ◌≡◌ {A = ℕ} 0 1 = cc in absurd (omega arith)
 word_first (b ∷ s) n x e = go (eqb b 116) refl e
   where
-    go : (t : Bool) → eqb b 116 ≡ t → followed (if t then got b s else bad) (λ _. these (bytes "ake")) ≡ got n x → tablet_line (b ∷ s) ≡ bad
+    go : (t : Bool) → eqb b 116 ≡ t → followed (when t then got b s else bad) (λ _. these (bytes "ake")) ≡ got n x → tablet_line (b ∷ s) ≡ bad
     go true q p = rw (eqb-true b 116 q)
     go false q p = let z : ◌≡◌ {A = ℕ} 0 1 = cc in absurd (omega arith)
 

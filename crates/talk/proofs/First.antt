@@ -11,7 +11,7 @@ use native.Mathlib.Decide.{dec_lt}
 use lib.Dec.{eqb}
 use lib.ListN.{length, take, length-take}
 use lib.Seq.{take-nil, take_all, take-take}
-use Rattle.paper.specs.Byte.{bytes, if◌then◌else◌, every}
+use Rattle.paper.specs.Byte.{bytes, when◌then◌else◌, every}
 use Rattle.paper.specs.Line.{Got, got, bad, Reader, followed, give, ended, one, byte, is_digit, digit, more_digits, number, kept}
 use Rattle.paper.specs.Read.{these}
 use Rattle.paper.specs.Program.{enough}
@@ -37,7 +37,7 @@ more_front K (suc k) n m (b ∷ s) e f = go (is_digit b) refl (more_front K k (n
 -- of a number
 number_front : (K : Got ℕ → Got ℕ → Type 0) (m : ℕ) (s : List ℕ) → every stays s ≡ true → K bad bad
     → ((v q : ℕ) (rest : List ℕ) → every stays rest ≡ true → K (got v rest) (got v (take (m + q) rest))) → K (number s) (number (take (m + 5) s))
-unfolding number digit one followed give if◌then◌else◌ every
+unfolding number digit one followed give when◌then◌else◌ every
 number_front K m [] e z f = rw (take-nil (m + 5)) z
 number_front K m (b ∷ s) e z f = go (is_digit b) refl
   where
@@ -49,7 +49,7 @@ number_front K m (b ∷ s) e z f = go (is_digit b) refl
 tablet_front : (K : Got Request → Got Request → Type 0) (m : ℕ) (s : List ℕ) → every stays s ≡ true → K bad bad
     → ((t q : ℕ) (line : List ℕ) → every stays line ≡ true → K (got (sends t enough line) []) (got (sends t enough (take (m + q) line)) []))
     → K (tablet_line s) (tablet_line (take (m + 6) s))
-unfolding tablet_line followed byte one remaining give if◌then◌else◌ every
+unfolding tablet_line followed byte one remaining give when◌then◌else◌ every
 tablet_front K m s e z f =
     let six : m + 6 ≡ m + 1 + 5 = omega arith in
     rw six (number_front (λ g h. K (followed g tail) (followed h tail)) (m + 1) s e z behind)
@@ -82,11 +82,11 @@ never bad f h = refl
 
 -- how many bytes a part takes away
 byte_takes : (b : ℕ) (x : List ℕ) (n : ℕ) (r : List ℕ) → byte b x ≡ got n r → length x ≡ suc (length r)
-unfolding byte one if◌then◌else◌
+unfolding byte one when◌then◌else◌
 byte_takes b [] n r e = let z : ◌≡◌ {A = ℕ} 0 1 = cc in absurd (omega arith)
 byte_takes b (c ∷ x) n r e = go (eqb c b) refl e
   where
-    go : (t : Bool) → eqb c b ≡ t → (if t then got c x else bad) ≡ got n r → length (c ∷ x) ≡ suc (length r)
+    go : (t : Bool) → eqb c b ≡ t → (when t then got c x else bad) ≡ got n r → length (c ∷ x) ≡ suc (length r)
     go true q p = let same : x ≡ r = cc in rw same
     go false q p = let z : ◌≡◌ {A = ℕ} 0 1 = cc in absurd (omega arith)
 
@@ -102,11 +102,11 @@ more_takes (suc k) n (b ∷ x) m r e = go (is_digit b) refl (more_takes k (n * 1
     go false q ih p = let same : b ∷ x ≡ r = cc in omega (arith, ap length same)
 
 number_takes : (x : List ℕ) (m : ℕ) (r : List ℕ) → number x ≡ got m r → length x ≤ length r + 5
-unfolding number digit one followed give if◌then◌else◌
+unfolding number digit one followed give when◌then◌else◌
 number_takes [] m r e = omega arith
 number_takes (b ∷ x) m r e = go (is_digit b) refl e
   where
-    go : (t : Bool) → is_digit b ≡ t → followed (followed (if t then got b x else bad) (λ c. give (c - 48))) (more_digits 4) ≡ got m r → length (b ∷ x) ≤ length r + 5
+    go : (t : Bool) → is_digit b ≡ t → followed (followed (when t then got b x else bad) (λ c. give (c - 48))) (more_digits 4) ≡ got m r → length (b ∷ x) ≤ length r + 5
     go true q p = omega (arith, more_takes 4 (b - 48) x m r p)
     go false q p = let z : ◌≡◌ {A = ℕ} 0 1 = cc in absurd (omega arith)
 

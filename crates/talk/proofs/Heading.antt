@@ -3,8 +3,6 @@ use Prim.Native.Nat.{ℕ, ◌^◌, ◌≤◌, ◌<◌}
 use mathlib.Core.Path.{◌≡◌, refl}
 use mathlib.Core.List.{List, [], ◌∷◌, ◌++◌, append-nil}
 use native.Mathlib.Omega.{arith}
-use denote.Enum.Declared.{tag_of}
-use types.Run.{OneOf, miss}
 use lib.ListN.{length}
 use Rattle.paper.specs.Byte.{bytes, decimal}
 use Rattle.paper.specs.Refusal as R
@@ -12,7 +10,6 @@ use Rattle.paper.specs.ClassProgram.{listed, head_of, ok_head, no_head}
 use Rattle.paper.proofs.Number.{decimal_is_within}
 use Rattle.command.specs.View.{refusal_of}
 use Rattle.command.specs.Numbered.{first, number_of}
-use Rattle.command.specs.contracts.Refusal as Tag
 use Rattle.command.specs.declared.Refusal.{Refusal}
 use Rattle.command.specs.declared.Refusal.TheVariants as W
 use Rattle.text.specs.Write.{Writes}

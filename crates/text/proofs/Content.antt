@@ -11,7 +11,7 @@ use lib.Seq.{drop-cons}
 use lib.Dec.{eqb}
 use native.Mathlib.Decide.{ℕ_discrete}
 use borrow.Author.Tests.{ne_eqb}
-use Rattle.paper.specs.Byte.{if◌then◌else◌}
+use Rattle.paper.specs.Byte.{when◌then◌else◌}
 use Rattle.paper.specs.Line.{Got, got, bad, followed, give, within, plain, quote, backslash, escape}
 use Rattle.text.specs.Place.{byte_at, from, text_at, content_of, Closes, literal}
 use Rattle.text.specs.Write.{Writes, mark_of}
@@ -20,20 +20,20 @@ use Rattle.text.proofs.Quote.{Ends, leaves, length_from, plain_quote, plain_back
 
 -- escaping one text behind another
 pub escape_append : (x y : List ℕ) → escape (x ++ y) ≡ escape x ++ escape y
-unfolding escape if◌then◌else◌
+unfolding escape when◌then◌else◌
 escape_append [] y = refl
 escape_append (b ∷ x) y = go (eqb b quote || eqb b backslash) (escape_append x y)
   where
-    go : (t : Bool) → escape (x ++ y) ≡ escape x ++ escape y → (if t then (backslash ∷ b ∷ escape (x ++ y)) else (b ∷ escape (x ++ y))) ≡ (if t then (backslash ∷ b ∷ escape x) else (b ∷ escape x)) ++ escape y
+    go : (t : Bool) → escape (x ++ y) ≡ escape x ++ escape y → (when t then (backslash ∷ b ∷ escape (x ++ y)) else (b ∷ escape (x ++ y))) ≡ (when t then (backslash ∷ b ∷ escape x) else (b ∷ escape x)) ++ escape y
     go true e = rw e
     go false e = rw e
 
 -- a byte is escaped by what goes before it
 pub escape_marked : (b : ℕ) → escape (b ∷ []) ≡ mark_of b ++ (b ∷ [])
-unfolding escape mark_of if◌then◌else◌
+unfolding escape mark_of when◌then◌else◌
 escape_marked b = go (eqb b quote || eqb b backslash)
   where
-    go : (t : Bool) → (if t then (backslash ∷ b ∷ []) else (b ∷ [])) ≡ (if t then (backslash ∷ []) else []) ++ (b ∷ [])
+    go : (t : Bool) → (when t then (backslash ∷ b ∷ []) else (b ∷ [])) ≡ (when t then (backslash ∷ []) else []) ++ (b ∷ [])
     go true = refl
     go false = refl
 
@@ -42,27 +42,27 @@ escape_length b = rw (escape_marked b) (length-append (mark_of b) (b ∷ []))
 
 -- a backslash goes before a quote
 pub mark_quote : (b : ℕ) → b ≡ 34 → mark_of b ≡ 92 ∷ []
-unfolding mark_of if◌then◌else◌
+unfolding mark_of when◌then◌else◌
 mark_quote b e = rw e
 
 -- and before a backslash
 pub mark_backslash : (b : ℕ) → b ≡ 92 → mark_of b ≡ 92 ∷ []
-unfolding mark_of if◌then◌else◌
+unfolding mark_of when◌then◌else◌
 mark_backslash b e = rw e
 
 -- and nothing before any other byte
 pub mark_other : (b : ℕ) → (b ≡ 34 → ⊥) → (b ≡ 92 → ⊥) → mark_of b ≡ []
-unfolding mark_of if◌then◌else◌
+unfolding mark_of when◌then◌else◌
 mark_other b q k = rw (mark_of, ne_eqb b 34 q, ne_eqb b 92 k)
 
 -- the code's answer at a backslash: the literal byte is the next
 pub literal_next : (s : List ℕ) (at : ℕ) → get_or s at 0 ≡ 92 → at + 1 ≡ literal s at
-unfolding literal byte_at if◌then◌else◌
+unfolding literal byte_at when◌then◌else◌
 literal_next s at e = rw e
 
 -- and at any other byte: it is the byte itself
 pub literal_here : (s : List ℕ) (at : ℕ) → (get_or s at 0 ≡ 92 → ⊥) → at ≡ literal s at
-unfolding literal byte_at if◌then◌else◌
+unfolding literal byte_at when◌then◌else◌
 literal_here s at h = rw (literal, ne_eqb (get_or s at 0) 92 h)
 
 -- a string that closes is shorter than the bytes up to its closing quote

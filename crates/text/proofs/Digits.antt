@@ -8,7 +8,7 @@ use native.Mathlib.Omega.{arith}
 use lib.ListN.{length}
 use lib.Dec.{leb}
 use borrow.Author.Tests.{leb-true}
-use Rattle.paper.specs.Byte.{if◌then◌else◌, between}
+use Rattle.paper.specs.Byte.{when◌then◌else◌, between}
 use Rattle.paper.specs.Line.{Got, got, bad, followed, give, one, is_digit, digit, more_digits}
 use Rattle.paper.proofs.Law.{and_right}
 use Rattle.text.specs.Place.{from, said, place_after, Says}
@@ -17,11 +17,11 @@ use Rattle.text.specs.declared.read.Number.TheVariants.{Value, Bad}
 
 -- a digit's value is at most 9, whatever bytes it is read from
 digit_bound : (x : List ℕ) (n : ℕ) (r : List ℕ) → digit x ≡ got n r → n ≤ 9
-unfolding digit one followed give if◌then◌else◌ is_digit between
+unfolding digit one followed give when◌then◌else◌ is_digit between
 digit_bound [] n r e = let z : ◌≡◌ {A = ℕ} 0 1 = cc in absurd (omega arith)
 digit_bound (b ∷ s) n r e = go (is_digit b) refl e
   where
-    go : (t : Bool) → is_digit b ≡ t → followed (if t then got b s else bad) (λ c. give (c - 48)) ≡ got n r → n ≤ 9
+    go : (t : Bool) → is_digit b ≡ t → followed (when t then got b s else bad) (λ c. give (c - 48)) ≡ got n r → n ≤ 9
     go true t p = let q : b - 48 ≡ n = cc in omega (arith, q, within)
       where
         within : b ≤ 57
@@ -48,7 +48,7 @@ below n k top h = omega (arith, mul-le-mul_left (n + 1) (ten_pos k))
 
 -- where no digit stands the number ends
 pub more_ends : (s : List ℕ) (k n at : ℕ) (a : Number) → Says s (digit (from s at)) a → a ≡ Bad → more_digits k n (from s at) ≡ got n (from s at)
-unfolding said more_digits digit followed one give if◌then◌else◌
+unfolding said more_digits digit followed one give when◌then◌else◌
 more_ends s zero n at a h e = refl
 more_ends s (suc k) n at a h e = go (from s at) (sym h.says ∙ rw e)
   where
@@ -56,20 +56,20 @@ more_ends s (suc k) n at a h e = go (from s at) (sym h.says ∙ rw e)
     go [] e = refl
     go (b ∷ x) e = stop (is_digit b) refl e
       where
-        stop : (t : Bool) → is_digit b ≡ t → followed (if t then got b x else bad) (λ c. give (c - 48)) ≡ bad → more_digits (suc k) n (b ∷ x) ≡ got n (b ∷ x)
+        stop : (t : Bool) → is_digit b ≡ t → followed (when t then got b x else bad) (λ c. give (c - 48)) ≡ bad → more_digits (suc k) n (b ∷ x) ≡ got n (b ∷ x)
         stop true t p = let z : ◌≡◌ {A = ℕ} 0 1 = cc in absurd (omega arith)
         stop false t p = rw (more_digits, t)
 
 -- where a digit stands the number goes on behind it
 pub more_goes : (s : List ℕ) (k n at : ℕ) (a : Number) (d next : ℕ) → Says s (digit (from s at)) a → a ≡ Value d next → more_digits (suc k) n (from s at) ≡ more_digits k (n * 10 + d) (from s next)
-unfolding said more_digits digit followed one give if◌then◌else◌
+unfolding said more_digits digit followed one give when◌then◌else◌
 more_goes s k n at a d next h e = go (from s at) (sym h.says ∙ rw e)
   where
     go : (x : List ℕ) → digit x ≡ got d (from s next) → more_digits (suc k) n x ≡ more_digits k (n * 10 + d) (from s next)
     go [] e = let z : ◌≡◌ {A = ℕ} 0 1 = cc in absurd (omega arith)
     go (b ∷ x) e = turn (is_digit b) refl e
       where
-        turn : (t : Bool) → is_digit b ≡ t → followed (if t then got b x else bad) (λ c. give (c - 48)) ≡ got d (from s next) → more_digits (suc k) n (b ∷ x) ≡ more_digits k (n * 10 + d) (from s next)
+        turn : (t : Bool) → is_digit b ≡ t → followed (when t then got b x else bad) (λ c. give (c - 48)) ≡ got d (from s next) → more_digits (suc k) n (b ∷ x) ≡ more_digits k (n * 10 + d) (from s next)
         turn true t p = let q : b - 48 ≡ d = cc in let r : x ≡ from s next = cc in rw (more_digits, t, q, r)
         turn false t p = let z : ◌≡◌ {A = ℕ} 0 1 = cc in absurd (omega arith)
 

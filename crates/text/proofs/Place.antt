@@ -10,7 +10,7 @@ use lib.ListN.{length, drop_of_length-le, get_or-eq_default}
 use lib.Seq.{drop-cons}
 use lib.Dec.{ltb, eqb}
 use borrow.Author.Tests.{le-leb, lt-leb, ltb-true, eq-eqb, ne_eqb}
-use Rattle.paper.specs.Byte.{if◌then◌else◌, between}
+use Rattle.paper.specs.Byte.{when◌then◌else◌, between}
 use Rattle.paper.specs.Line.{Got, got, bad, Reader, followed, give, one, is_digit, digit, comma, byte}
 use Rattle.paper.specs.Read.{or_else}
 use Rattle.paper.proofs.Part.{or_else_got, or_else_bad}
@@ -29,12 +29,12 @@ stands s at b e p = elim (dec_lt at (length s)) [ yes h ↦ h | no h ↦ absurd 
 
 -- a byte that fails a test, which the 0 past the end fails too
 pub one_fails : (test : ℕ → Bool) (s : List ℕ) (at : ℕ) → test (byte_at s at) ≡ false → one test (from s at) ≡ bad
-unfolding one if◌then◌else◌ byte_at from
+unfolding one when◌then◌else◌ byte_at from
 one_fails test s at e = elim (dec_lt at (length s)) [ yes h ↦ rw (drop-cons s at 0 h, e) | no h ↦ rw (drop_of_length-le s {i = at} (omega arith)) ]
 
 -- a byte in the line that passes the test is read
 pub one_passes : (test : ℕ → Bool) (s : List ℕ) (at : ℕ) → test (byte_at s at) ≡ true → at < length s → one test (from s at) ≡ got (byte_at s at) (from s (at + 1))
-unfolding one if◌then◌else◌ byte_at from
+unfolding one when◌then◌else◌ byte_at from
 one_passes test s at e h = rw (drop-cons s at 0 h, e, add-one)
 
 -- nothing was read, and the answer says so

@@ -13,7 +13,7 @@ use lib.Seq.{drop-cons, drop-drop}
 use lib.Dec.{eqb}
 use native.Mathlib.Decide.{ℕ_discrete}
 use borrow.Author.Tests.{eqb-true, eq-eqb, ne_eqb}
-use Rattle.paper.specs.Byte.{if◌then◌else◌}
+use Rattle.paper.specs.Byte.{when◌then◌else◌}
 use Rattle.paper.specs.Line.{Got, got, bad, followed, give, byte, quote, backslash, within, plain, escaped, string}
 use Rattle.text.proofs.Place.{stands, one_fails, one_passes}
 use Rattle.text.specs.Place.{byte_at, from, run, run_end, closing, quoted_at, content_of, text_at, Closes}
@@ -75,19 +75,19 @@ run_past s i end e h =
 
 -- at a quote or a backslash: the run ends
 pub run_stops : (s : List ℕ) (i end b : ℕ) → run_end s i ≡ end → i < length s → get_or s i 0 ≡ b → (eqb b quote || eqb b backslash) ≡ true → i ≡ end
-unfolding run_end run if◌then◌else◌
+unfolding run_end run when◌then◌else◌
 run_stops s i end b e h q t = let none : run (from s i) ≡ 0 = rw (from_cons s i h, q, run, t) in omega arith
 
 -- at any other byte it goes on
 pub run_goes : (s : List ℕ) (i end : ℕ) → run_end s i ≡ end → i < length s → (get_or s i 0 ≡ 34 → ⊥) → (get_or s i 0 ≡ 92 → ⊥) → run_end s (i + 1) ≡ end
-unfolding run_end run if◌then◌else◌
+unfolding run_end run when◌then◌else◌
 run_goes s i end e h q k =
     let more : run (from s i) ≡ suc (run (from s (i + 1))) = rw (from_cons s i h, run, ne_eqb _ 34 q, ne_eqb _ 92 k) in
     omega arith
 
 -- a run is content: a string closes where it closes behind the run, with so many bytes more
 run_content : (s : List ℕ) (len : ℕ) (x : List ℕ) → closing s len (plain x) ≡ closing s (len + run x) (plain (drop (run x) x))
-unfolding run if◌then◌else◌
+unfolding run when◌then◌else◌
 run_content s len [] = rw add-zero
 run_content s len (b ∷ x) = go (eqb b quote) (eqb b backslash) refl refl (run_content s (len + 1) x)
   where
@@ -100,7 +100,7 @@ run_content s len (b ∷ x) = go (eqb b quote) (eqb b backslash) refl refl (run_
 
 -- behind a run stands a quote or a backslash
 run_marked : (x : List ℕ) (b : ℕ) (y : List ℕ) → drop (run x) x ≡ b ∷ y → (eqb b quote || eqb b backslash) ≡ true
-unfolding run if◌then◌else◌
+unfolding run when◌then◌else◌
 run_marked [] b y p = let z : ◌≡◌ {A = ℕ} 0 1 = cc in absurd (omega arith)
 run_marked (c ∷ x) b y p = go (eqb c quote || eqb c backslash) refl (run_marked x b y) p
   where

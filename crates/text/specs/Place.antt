@@ -1,6 +1,6 @@
 -- Places in a line, and the leaf readers: what each answers is the paper's reader on the bytes from a place on.
 use Rattle.std.specs.Prelude.{ℕ, suc, ◌+◌, ◌-◌, ◌≤◌, ◌<◌, ◌≡◌, ◌||◌, List, [], ◌∷◌, length, drop, get_or, eqb}
-use Rattle.paper.specs.Byte.{if◌then◌else◌}
+use Rattle.paper.specs.Byte.{when◌then◌else◌}
 use Rattle.paper.specs.Line.{Got, got, bad, followed, comma, give, plain, quote, backslash}
 use Rattle.text.specs.declared.read.Number.{Number}
 use Rattle.text.specs.declared.read.Number.TheVariants.{Value, Bad}
@@ -39,7 +39,7 @@ with_comma g = followed g (λ n s. followed (comma s) (λ _. give n))
 -- how many bytes stand before the first quote or backslash
 unfoldable pub run : List ℕ → ℕ
 run [] = 0
-run (b ∷ s) = if eqb b quote || eqb b backslash then 0 else suc (run s)
+run (b ∷ s) = when eqb b quote || eqb b backslash then 0 else suc (run s)
 
 -- the place of the first quote or backslash from a place on, or else the end; past the end the place itself
 unfoldable pub run_end : List ℕ → ℕ → ℕ
@@ -71,4 +71,4 @@ pub record Closes (s : List ℕ) (start end : ℕ) : Type 0 where
 
 -- the place of the byte that a string's byte stands for: behind a backslash the next
 unfoldable pub literal : List ℕ → ℕ → ℕ
-literal s at = if eqb (byte_at s at) backslash then at + 1 else at
+literal s at = when eqb (byte_at s at) backslash then at + 1 else at

@@ -1,6 +1,6 @@
 -- Writing into a lent buffer: which bytes stand where, and that no other byte changes.
 use Rattle.std.specs.Prelude.{ℕ, ◌+◌, ◌-◌, ◌≤◌, ◌≡◌, ◌||◌, List, [], ◌∷◌, ◌++◌, length, take, drop, replicate, eqb}
-use Rattle.paper.specs.Byte.{if◌then◌else◌}
+use Rattle.paper.specs.Byte.{when◌then◌else◌}
 use Rattle.paper.specs.Line.{quote, backslash}
 
 -- a buffer after some bytes were written at a place
@@ -15,7 +15,7 @@ pub record Writes (old : List ℕ) (at : ℕ) (bytes : List ℕ) (new : List ℕ
 
 -- what goes before a byte of a string in normal form
 unfoldable pub mark_of : ℕ → List ℕ
-mark_of b = if eqb b quote || eqb b backslash then (backslash ∷ []) else []
+mark_of b = when eqb b quote || eqb b backslash then (backslash ∷ []) else []
 
 -- a list with zeros behind it, up to a length: what memory holds that was filled from the front
 unfoldable pub padded : ℕ → List ℕ → List ℕ

@@ -5,7 +5,7 @@ use mathlib.Core.List.{List, []}
 use native.Mathlib.Omega.{arith}
 use lib.ListN.{length, take, length-take}
 use borrow.Author.Tests.{ne_eqb}
-use Rattle.paper.specs.Byte.{if◌then◌else◌}
+use Rattle.paper.specs.Byte.{when◌then◌else◌}
 use Rattle.paper.specs.Line.{kept}
 use Rattle.paper.proofs.Law.{if_false}
 use Rattle.command.specs.declared.Refusal.TheVariants as W
@@ -31,7 +31,7 @@ kept_counts old s new n l c = let w = waits_kept old s new n l c in w.counts ∙
 
 -- why it is refused, as the code tells it
 pub fault_long : (n : ℕ) → n ≡ 257 → W.TooLong ≡ fault_of n
-unfolding fault_of if◌then◌else◌
+unfolding fault_of when◌then◌else◌
 fault_long n e = rw e
 
 pub fault_control : (n : ℕ) → (n ≡ 257 → ⊥) → W.ControlByte ≡ fault_of n

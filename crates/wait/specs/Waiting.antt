@@ -1,6 +1,6 @@
 -- Bytes of a line that wait: those that are not dropped, and of them as many as a line's refusal needs.
 use Rattle.std.specs.Prelude.{ℕ, ◌≡◌, List, ◌++◌, length, take, drop, eqb}
-use Rattle.paper.specs.Byte.{if◌then◌else◌}
+use Rattle.paper.specs.Byte.{when◌then◌else◌}
 use Rattle.paper.specs.Line.{kept}
 use Rattle.command.specs.declared.Refusal.{Refusal}
 use Rattle.command.specs.declared.Refusal.TheVariants as W
@@ -23,4 +23,4 @@ pub record Comes (old : List ℕ) (len : ℕ) (s new : List ℕ) (r : ℕ) : Typ
 
 -- why a line with a control byte among those that wait is refused: all that may wait is a line that is too long
 unfoldable pub fault_of : ℕ → Refusal
-fault_of n = if eqb n 257 then W.TooLong else W.ControlByte
+fault_of n = when eqb n 257 then W.TooLong else W.ControlByte

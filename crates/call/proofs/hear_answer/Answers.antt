@@ -1,5 +1,4 @@
 -- The answer is judged by a step, and the session's numbers go back to memory.
-use borrow.Author.Rules.{rules}
 use native.Mathlib.Omega.{arith}
 use Rattle.call.proofs.Calling.{slices_ten, slices_planned, slices_answering, slices_answered}
 use Rattle.call.proofs.hear_answer.Goals as goal

@@ -1,5 +1,4 @@
 -- A command is obeyed by a step, and the numbers of the session and of the store go back to memory.
-use borrow.Author.Rules.{rules}
 use Rattle.listen.proofs.Hearing.{hears_shown}
 use Rattle.call.proofs.Calling.{slices_ten, slices_two, slices_at, slices_other, slices_heard}
 use Rattle.call.proofs.hear_command.Goals as goal

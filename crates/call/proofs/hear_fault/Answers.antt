@@ -1,5 +1,4 @@
 -- The line is refused by a step, and the session's numbers go back to memory.
-use borrow.Author.Rules.{rules}
 use Rattle.call.proofs.Calling.{slices_ten, slices_kept, slices_refused}
 use Rattle.call.proofs.hear_fault.Goals as goal
 

@@ -1,5 +1,4 @@
 -- A set is taken by a step, and the session's numbers go back to memory.
-use borrow.Author.Rules.{rules}
 use Rattle.call.proofs.Calling.{slices_ten, slices_showing, slices_taken}
 use Rattle.call.proofs.take.Goals as goal
 

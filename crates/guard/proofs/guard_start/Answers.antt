@@ -1,5 +1,4 @@
 -- The others are asked, then the line is read, and then the store is asked.
-use borrow.Author.Rules.{rules}
 use Rattle.guard.proofs.Barring.{watching_stocked, watching_numbers, start_taken, start_barred}
 use Rattle.guard.proofs.Reading.{start_read, names_start, guards_start, start_unread, guards_alone}
 use Rattle.guard.proofs.guard_start.Goals as goal

@@ -1,5 +1,4 @@
 -- Only `FS` and `FK` matter to the others, and the first two bytes tell them.
-use borrow.Author.Rules.{rules}
 use Rattle.guard.proofs.Reading.{guards_first, guards_second, guards_long}
 use Rattle.guard.proofs.guarded.Goals as goal
 

@@ -1,6 +1,5 @@
 -- The tablet's parts are its session's: the answer is heard there, and each part comes back to its place.
 use mathlib.Core.Path.{◌∙◌}
-use borrow.Author.Rules.{rules}
 use Rattle.lend.proofs.Seating.{sits_reached, sits_inside, tag_lent, seat_hears}
 use Rattle.lend.proofs.seat_answer.Goals as goal
 

@@ -1,7 +1,6 @@
 -- The tablet's parts are its session's: the line is heard there, and each part comes back to its place. Each need stands by itself.
 use mathlib.Core.Path.{sym, ◌∙◌}
-use borrow.Author.Rules.{rules}
-use Rattle.lend.proofs.Seating.{sits_reached, sits_inside, back_length, tag_lent, seat_hears}
+use Rattle.lend.proofs.Seating.{sits_reached, sits_inside, tag_lent, seat_hears}
 use Rattle.lend.proofs.seat_command.Goals as goal
 
 pub slice_bounds-hear_command-end : goal.slice_bounds-hear_command-end

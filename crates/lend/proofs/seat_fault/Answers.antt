@@ -1,5 +1,4 @@
 -- The tablet's parts are its session's: the line is refused there, and each part comes back to its place.
-use borrow.Author.Rules.{rules}
 use Rattle.lend.proofs.Seating.{sits_reached, sits_inside, seat_hears}
 use Rattle.lend.proofs.seat_fault.Goals as goal
 

@@ -1,5 +1,4 @@
 -- The tablet's parts are its session's: the set is taken there, and each part comes back to its place.
-use borrow.Author.Rules.{rules}
 use Rattle.lend.proofs.Seating.{sits_reached, sits_inside, seat_takes}
 use Rattle.lend.proofs.take_seat.Goals as goal
 

@@ -1,5 +1,4 @@
 -- The used part of each list is wiped.
-use borrow.Author.Rules.{rules}
 use Rattle.store.proofs.Leaving.{clears}
 use Rattle.store.proofs.clear.Goals as goal
 

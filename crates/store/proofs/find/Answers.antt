@@ -1,9 +1,6 @@
 -- The loop keeps what is left to look at; a name that is found says the whole.
-use Prim.Native.Nat.{◌-◌}
-use native.Mathlib.Omega.{arith}
 use borrow.Author.Rules.{rules}
-use Rattle.store.specs.Lent.{store_of}
-use Rattle.store.proofs.Seek.{Seeking, seek_begins, seek_short, seek_room, seek_finds, seek_turns, seek_ends}
+use Rattle.store.proofs.Seek.{seek_begins, seek_short, seek_room, seek_finds, seek_turns, seek_ends}
 use Rattle.store.proofs.find.Goals as goal
 
 pub loop-i-init : goal.loop-i-init

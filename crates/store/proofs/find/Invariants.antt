@@ -1,9 +1,7 @@
 -- The loop keeps what is left to look at; a name that is found says the whole.
 use Prim.Native.Nat.{◌-◌}
-use native.Mathlib.Omega.{arith}
-use borrow.Author.Rules.{rules}
 use Rattle.store.specs.Lent.{store_of}
-use Rattle.store.proofs.Seek.{Seeking, seek_begins, seek_short, seek_room, seek_finds, seek_turns, seek_ends}
+use Rattle.store.proofs.Seek.{Seeking}
 use Rattle.store.proofs.find.Given as goal
 
 abbrev pub invariant-loop-i : goal.invariant-loop-i

@@ -1,5 +1,4 @@
 -- Eight forms are there, or the bytes left decide.
-use borrow.Author.Rules.{rules}
 use Rattle.store.proofs.Packing.{room_full, room_bytes}
 use Rattle.store.proofs.has_room.Goals as goal
 

@@ -1,6 +1,5 @@
 -- The slot is the part of the names that is compared.
 use Rattle.store.proofs.Look.{name_part}
-use borrow.Author.Rules.{rules}
 use Rattle.store.proofs.is_named.Goals as goal
 
 pub returns : goal.returns

@@ -1,8 +1,5 @@
 -- The loop keeps what is left to compare.
-use Prim.Native.Nat.{◌-◌}
-use native.Mathlib.Omega.{arith}
-use lib.ListN.{length}
-use Rattle.store.proofs.Compare.{Agree, unlike, agree_begins, agree_differs, agree_turns, agree_ends}
+use Rattle.store.proofs.Compare.{unlike, agree_begins, agree_differs, agree_turns, agree_ends}
 use Rattle.store.proofs.is_same.Goals as goal
 
 pub returns-then-a-b : goal.returns-then-a-b

@@ -1,8 +1,7 @@
 -- The loop keeps what is left to compare.
 use Prim.Native.Nat.{◌-◌}
-use native.Mathlib.Omega.{arith}
 use lib.ListN.{length}
-use Rattle.store.proofs.Compare.{Agree, unlike, agree_begins, agree_differs, agree_turns, agree_ends}
+use Rattle.store.proofs.Compare.{Agree}
 use Rattle.store.proofs.is_same.Given as goal
 
 abbrev pub invariant-loop-i : goal.invariant-loop-i

@@ -1,5 +1,4 @@
 -- Two writes over zeros and two numbers behind the others.
-use borrow.Author.Rules.{rules}
 use Rattle.store.proofs.Packing.{joins}
 use Rattle.store.proofs.join.Goals as goal
 

@@ -1,6 +1,5 @@
 -- A name and LF are two writes, one behind the other.
 use Rattle.store.proofs.Listing.{name_line_written}
-use borrow.Author.Rules.{rules}
 use Rattle.store.proofs.put_name.Goals as goal
 
 pub returns : goal.returns

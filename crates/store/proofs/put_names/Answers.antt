@@ -1,10 +1,7 @@
 -- The loop keeps the lines of the forms so far.
 use mathlib.Core.Path.{refl}
-use Prim.Native.Nat.{◌-◌}
-use native.Mathlib.Omega.{arith}
 use borrow.Author.Rules.{rules}
-use Rattle.store.specs.Lent.{store_of}
-use Rattle.store.proofs.Listing.{Naming, naming_begins, naming_short, naming_room, naming_length, naming_turns, naming_ends}
+use Rattle.store.proofs.Listing.{naming_begins, naming_short, naming_room, naming_length, naming_turns, naming_ends}
 use Rattle.store.proofs.put_names.Goals as goal
 
 pub loop-i-init : goal.loop-i-init

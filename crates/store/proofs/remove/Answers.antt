@@ -1,5 +1,4 @@
 -- The gap that the form leaves is closed in each list.
-use borrow.Author.Rules.{rules}
 use Rattle.store.proofs.Leaving.{form_leaves}
 use Rattle.store.proofs.remove.Goals as goal
 

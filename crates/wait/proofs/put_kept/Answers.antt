@@ -1,8 +1,5 @@
 -- Byte by byte: dropped, kept, or beyond what is looked at.
-use Prim.Native.Nat.{◌-◌}
-use lib.ListN.{length}
-use borrow.Author.Rules.{rules}
-use Rattle.wait.proofs.Keeping.{Keeping, keeping_begins, keeping_cr, keeping_eof, keeping_more, keeping_full, keeping_ends}
+use Rattle.wait.proofs.Keeping.{keeping_begins, keeping_cr, keeping_eof, keeping_more, keeping_full, keeping_ends}
 use Rattle.wait.proofs.put_kept.Goals as goal
 
 pub loop-i-init : goal.loop-i-init

@@ -1,5 +1,4 @@
 -- `is_star` answers whether the content is the star: one byte, and that byte is the literal one at its start.
-use borrow.Author.Rules.{rules}
 use native.Mathlib.Omega.{arith}
 use Rattle.command.proofs.Name.{star_not, star_starts, star_judged}
 use Rattle.command.proofs.range.is_star.Goals as goal

@@ -1,15 +1,9 @@
 -- `name_in` answers whether the content is a name: its length is, and the bytes passed are, so that those from `i` on decide about the whole content. Each turn steps over one byte of the content.
 use Prim.Native.Nat.{◌-◌}
-use mathlib.Core.Path.{◌≡◌, refl}
-use native.Mathlib.Omega.{arith}
-use borrow.Author.Rules.{rules}
-use borrow.Author.Tests.{not-true, not-false}
+use mathlib.Core.Path.{◌≡◌}
 use Rattle.paper.specs.Byte.{every}
 use Rattle.paper.specs.Command.{is_name_byte}
 use Rattle.text.specs.Place.{text_at, Closes}
-use Rattle.text.proofs.Content.{Steps, closes_steps}
-use Rattle.command.proofs.Held.{walk_turns, walk_stops, walk_ends}
-use Rattle.command.proofs.Name.{name_byte, name_empty, name_long, name_judged}
 use Rattle.command.proofs.range.name_in.Given as goal
 
 abbrev pub invariant-loop-i : goal.invariant-loop-i

@@ -1,6 +1,5 @@
 -- The line is written behind the others.
 use native.Mathlib.Omega.{arith}
-use borrow.Author.Rules.{rules}
 use Rattle.text.proofs.Written.{writes_length}
 use Rattle.normal.proofs.Lent.{front_length}
 use Rattle.filing.proofs.Collecting.{text_whole, text_short, reads_written, keeps_long, keeps_many, keeps_more}

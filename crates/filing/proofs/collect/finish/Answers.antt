@@ -1,5 +1,4 @@
 -- `FE` in each state.
-use borrow.Author.Rules.{rules}
 use Rattle.session.proofs.Refusing.{minds_not_now, finish_not_now}
 use Rattle.filing.proofs.Collecting.{at_used, files_shelved, files_beside, finishes_spoiled}
 use Rattle.session.proofs.Tags.{tags}

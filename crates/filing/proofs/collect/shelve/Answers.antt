@@ -1,6 +1,5 @@
 -- The text is checked, its plan is made behind the others, and the store takes the form.
 use native.Mathlib.Omega.{arith}
-use borrow.Author.Rules.{rules}
 use Rattle.filing.proofs.Clearing.{at_stocked}
 use Rattle.filing.proofs.Collecting.{text_front, name_front, shelves_unsound, shelves_full, room_spare, plan_inside, draft_plannable, shelves_stored}
 use mathlib.Core.Path.{ap}

@@ -1,6 +1,5 @@
 -- The name is looked for; the plan of its form says what is asked for.
 use Prim.Native.Nat.{◌<◌}
-use borrow.Author.Rules.{rules}
 use native.Mathlib.Omega.{arith}
 use Rattle.filing.proofs.Clearing.{at_stocked}
 use Rattle.filing.proofs.Filing.{recall_not_now, recall_few, recall_inside, recall_opens, recall_absent}

@@ -1,5 +1,4 @@
 -- The plans are wiped, and the store is cleared.
-use borrow.Author.Rules.{rules}
 use native.Mathlib.Omega.{arith}
 use Rattle.session.proofs.Used.{fills_inside}
 use Rattle.filing.proofs.Clearing.{stocks_few, stocks_plans, stocks_stocked, shelf_cleared}

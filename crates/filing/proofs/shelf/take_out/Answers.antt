@@ -1,5 +1,4 @@
 -- The form leaves the store, and the gap that its plan leaves is closed.
-use borrow.Author.Rules.{rules}
 use native.Mathlib.Omega.{arith}
 use Rattle.filing.proofs.Clearing.{leaving_stands, leaving_few, leaving_inside, leaving_small, leaving_room, shelf_leaves}
 use Rattle.filing.proofs.shelf.take_out.Goals as goal

@@ -1,5 +1,4 @@
 -- `line_in` tells a definition by the letter that its line begins with: C and V begin no other line of a form.
-use borrow.Author.Rules.{rules}
 use Rattle.form.proofs.Defined.{line_counter, line_variable, line_other}
 use Rattle.form.proofs.asked.line_in.Goals as goal
 

@@ -1,5 +1,4 @@
 -- `draw_rules` tells the first two lines by their letters, and judges any other by its place and its value.
-use borrow.Author.Rules.{rules}
 use Rattle.form.proofs.Judged.{size_rules, direction_rules, early_rules, late_rules}
 use Rattle.form.proofs.check.draw_rules.Goals as goal
 

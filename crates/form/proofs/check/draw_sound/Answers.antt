@@ -1,5 +1,4 @@
 -- `draw_sound` judges a line by the len that is noted for the value at its end.
-use borrow.Author.Rules.{rules}
 use Rattle.form.proofs.Values.{whole_sound, alone_sound, joins_sound}
 use Rattle.form.proofs.check.draw_sound.Goals as goal
 

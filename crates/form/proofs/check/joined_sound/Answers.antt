@@ -1,5 +1,4 @@
 -- `joined_sound` judges a string and a value by the sum of their lengths.
-use borrow.Author.Rules.{rules}
 use Rattle.form.proofs.Slots.{join_none, join_long, join_short}
 use Rattle.form.proofs.check.joined_sound.Goals as goal
 

@@ -1,5 +1,4 @@
 -- `len_at` gives the len at a place, and 0 past the last.
-use borrow.Author.Rules.{rules}
 use Rattle.form.proofs.Slots.{past_last}
 use Rattle.form.proofs.check.len_at.Goals as goal
 

@@ -1,5 +1,4 @@
 -- `note_len` notes a len at a place, and nothing past the last.
-use borrow.Author.Rules.{rules}
 use Rattle.form.proofs.Slots.{past_noted}
 use Rattle.form.proofs.check.note_len.Goals as goal
 

@@ -1,5 +1,4 @@
 -- `slot_of` tells a value's place by its number.
-use native.Mathlib.Omega.{arith}
 use Rattle.form.proofs.Slots.{place_none, place_some}
 use Rattle.form.proofs.check.slot_of.Goals as goal
 

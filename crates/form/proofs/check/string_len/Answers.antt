@@ -1,5 +1,4 @@
 -- `string_len` reads the setting and the string behind it, and the text of the line gives them back.
-use borrow.Author.Rules.{rules}
 use Rattle.form.proofs.Values.{no_setting, no_string, string_counts}
 use Rattle.form.proofs.check.string_len.Goals as goal
 

@@ -1,13 +1,11 @@
 -- `unsound_at` checks line after line: the lines before `at` keep the rules, so that those from there on decide.
-use Prim.Native.Nat.{◌-◌}
 use native.Mathlib.Omega.{arith}
-use lib.ListN.{length}
 use borrow.Author.Rules.{rules}
 use borrow.Author.Tests.{not-true, not-false}
 use Rattle.form.specs.Walk.{part_of}
 use Rattle.form.proofs.Lines.{Inside, end_inside}
 use Rattle.form.proofs.Slots.{agrees_none}
-use Rattle.form.proofs.Broken.{Checking, check_begins, check_turns, check_breaks, check_short, check_ends}
+use Rattle.form.proofs.Broken.{check_begins, check_turns, check_breaks, check_short, check_ends}
 use Rattle.form.proofs.check.unsound_at.Goals as goal
 
 pub loop-at-init : goal.loop-at-init

@@ -1,6 +1,5 @@
 -- Each return is the law of the bytes that were tested before it.
 use Rattle.form.proofs.LastBytes.{whole_short, whole_other, whole_closed, counter_ends, variable_ends}
-use borrow.Author.Rules.{rules}
 use Rattle.form.proofs.ending.ending_of.Goals as goal
 
 pub returns-then-size-lt4 : goal.returns-then-size-lt4

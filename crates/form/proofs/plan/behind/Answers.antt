@@ -1,6 +1,5 @@
 -- The test tells.
 use Rattle.form.proofs.Ends.{opens_behind, closes_behind}
-use borrow.Author.Rules.{rules}
 use Rattle.form.proofs.plan.behind.Goals as goal
 
 pub returns-then-opens : goal.returns-then-opens

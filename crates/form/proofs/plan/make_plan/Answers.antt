@@ -1,6 +1,5 @@
 -- The loop keeps the text in the struct, and the lines that are still to come with the plan so far (`Planning.antt`).
 use mathlib.Core.Path.{refl}
-use native.Mathlib.Omega.{arith}
 use Rattle.form.proofs.Planning.{trails_first, trails_room, trails_made}
 use Rattle.form.proofs.plan.make_plan.Goals as goal
 

@@ -1,6 +1,5 @@
 -- A definition is noted number by number, behind those that are noted.
 use Rattle.form.proofs.Memory.{define_noted}
-use borrow.Author.Rules.{rules}
 use Rattle.form.proofs.plan.note_define.Goals as goal
 
 pub returns : goal.returns

@@ -1,6 +1,5 @@
 -- An open piece is noted, and then the definition.
 use Rattle.form.proofs.Ends.{gap_open, gap_define, gap_noted}
-use borrow.Author.Rules.{rules}
 use Rattle.form.proofs.plan.note_gap.Goals as goal
 
 pub note_open-requires : goal.note_open-requires

@@ -1,6 +1,5 @@
 -- An open piece is noted, unless it has no bytes.
 use Rattle.form.proofs.Memory.{open_noted, none_noted}
-use borrow.Author.Rules.{rules}
 use Rattle.form.proofs.plan.note_open.Goals as goal
 
 pub returns-then-start-end : goal.returns-then-start-end

@@ -1,6 +1,5 @@
 -- A piece is noted number by number, behind those that are noted.
 use Rattle.form.proofs.Memory.{piece_noted}
-use borrow.Author.Rules.{rules}
 use Rattle.form.proofs.plan.note_piece.Goals as goal
 
 pub returns : goal.returns

@@ -1,10 +1,4 @@
 -- `line_end` walks to the first LF: the end of the line from `i` on is the end of the whole line.
-use Prim.Native.Nat.{◌+◌, ◌-◌}
-use mathlib.Core.Path.{◌≡◌, refl}
-use native.Mathlib.Omega.{arith}
-use lib.ListN.{length}
-use Rattle.text.specs.Place.{from}
-use Rattle.form.specs.Walk.{first_line}
 use Rattle.form.proofs.Lines.{end_turns, end_here, end_none}
 use Rattle.form.proofs.walk.line_end.Goals as goal
 

@@ -1,11 +1,9 @@
 -- `clear_end` walks to the first control byte, four bytes a turn: each of the four is a step of the same walk.
 use Prim.Native.Nat.{◌+◌, ◌-◌, ◌≤◌}
-use mathlib.Core.Path.{◌≡◌, refl, sym, ◌∙◌}
-use native.Mathlib.Omega.{arith}
+use mathlib.Core.Path.{◌≡◌}
 use lib.ListN.{length}
 use Rattle.text.specs.Place.{from}
 use Rattle.line.specs.Shown.{clear_part}
-use Rattle.line.proofs.Control.{clear_turns, clear_here}
 use Rattle.line.proofs.clear.clear_end.Given as goal
 
 abbrev pub invariant-loop-i : goal.invariant-loop-i

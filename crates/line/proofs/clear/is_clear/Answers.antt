@@ -1,5 +1,4 @@
 -- `is_clear` holds where the clear part of a line is all of it; else a control byte stands behind that part.
-use native.Mathlib.Omega.{arith}
 use borrow.Author.Tests.{eqb-true, eqb-false}
 use Rattle.line.proofs.Control.{clear_whole, clear_short}
 use Rattle.line.proofs.clear.is_clear.Goals as goal

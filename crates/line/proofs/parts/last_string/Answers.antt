@@ -1,5 +1,4 @@
 -- `last_string` answers a string that stands there and ends the line, one law for each return.
-use borrow.Author.Rules.{rules}
 use native.Mathlib.Omega.{arith}
 use Rattle.line.proofs.Item.{standing, last_missing, last_more, last_held}
 use Rattle.line.proofs.parts.last_string.Goals as goal

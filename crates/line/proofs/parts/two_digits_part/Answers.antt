@@ -1,5 +1,4 @@
 -- `two_digits_part` says what the paper's part reads: what was read, and then the comma.
-use borrow.Author.Rules.{rules}
 use Rattle.line.proofs.Chain.{part_says}
 use Rattle.line.proofs.parts.two_digits_part.Goals as goal
 

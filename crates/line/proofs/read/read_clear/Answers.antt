@@ -1,5 +1,4 @@
 -- `read_clear` gives the empty line, or what the parts of a line of its kind say.
-use borrow.Author.Rules.{rules}
 use Rattle.line.proofs.Whole.{read_shown, shown_empty, shown_kind}
 use Rattle.line.proofs.read.read_clear.Goals as goal
 

@@ -1,5 +1,4 @@
 -- `N`: refused while a form is collected, and else Idle.
-use borrow.Author.Rules.{rules}
 use Rattle.session.proofs.Refusing.{minds_not_now, new_collecting, new_spoiled}
 use Rattle.session.proofs.Used.{kept_used}
 use Rattle.listen.proofs.Heeding.{resets}

@@ -1,11 +1,7 @@
 -- `all_shown` answers whether every byte of a string is shown: the bytes passed are, so that those from `i` on decide. Each turn steps over one byte of the content.
-use Prim.Native.Nat.{◌-◌}
-use mathlib.Core.Path.{◌≡◌, refl}
+use mathlib.Core.Path.{refl}
 use native.Mathlib.Omega.{arith}
 use borrow.Author.Rules.{rules}
-use Rattle.paper.specs.Byte.{every}
-use Rattle.paper.specs.Command.{is_shown}
-use Rattle.text.specs.Place.{text_at, Closes}
 use Rattle.text.proofs.Content.{Steps, closes_steps}
 use Rattle.command.proofs.Held.{walk_turns, walk_stops, walk_ends}
 use Rattle.normal.proofs.Judged.{byte_shown, byte_hidden}

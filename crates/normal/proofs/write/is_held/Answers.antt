@@ -1,5 +1,4 @@
 -- `is_held` answers whether a string is held: where it closes, and then its length.
-use borrow.Author.Rules.{rules}
 use Rattle.normal.proofs.Judged.{held_stays_open, held_elsewhere, held_counted}
 use Rattle.normal.proofs.write.is_held.Goals as goal
 

@@ -1,5 +1,4 @@
 -- `is_name` answers whether a string is held and a name.
-use borrow.Author.Rules.{rules}
 use borrow.Author.Tests.{not-true, not-false}
 use Rattle.normal.proofs.Judged.{and_fails, told_holds, name_told}
 use Rattle.normal.proofs.write.is_name.Goals as goal

@@ -1,5 +1,4 @@
 -- `is_names` answers whether a string is held, and a name or the star.
-use borrow.Author.Rules.{rules}
 use borrow.Author.Tests.{not-true, not-false}
 use Rattle.normal.proofs.Judged.{and_fails, told_holds, names_name, names_star}
 use Rattle.normal.proofs.write.is_names.Goals as goal

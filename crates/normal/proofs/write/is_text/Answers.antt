@@ -1,5 +1,4 @@
 -- `is_text` answers whether a text is held and in range: its string, its parameters and its content.
-use borrow.Author.Rules.{rules}
 use borrow.Author.Tests.{not-true, not-false}
 use Rattle.normal.proofs.Judged.{text_hidden, text_out, text_told}
 use Rattle.normal.proofs.write.is_text.Goals as goal

@@ -1,5 +1,4 @@
 -- `is_varying` answers whether a variable's definition is held and in range: its prompt, and then its numbers.
-use borrow.Author.Rules.{rules}
 use borrow.Author.Tests.{not-true, not-false}
 use Rattle.normal.proofs.Judged.{varying_hidden, and_passes, told_held, told_counted, told_shown}
 use Rattle.normal.proofs.write.is_varying.Goals as goal

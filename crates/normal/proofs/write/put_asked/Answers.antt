@@ -1,5 +1,4 @@
 -- `put_asked` writes the first parts of a `V` line.
-use borrow.Author.Rules.{rules}
 use Rattle.normal.proofs.Piece.{rooms, byte_then, commaed_then}
 use Rattle.normal.proofs.write.put_asked.Goals as goal
 

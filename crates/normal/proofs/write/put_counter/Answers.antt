@@ -1,5 +1,4 @@
 -- `put_counter` writes the first parts of a `C` line.
-use borrow.Author.Rules.{rules}
 use Rattle.normal.proofs.Piece.{rooms, byte_then, commaed_then}
 use Rattle.normal.proofs.write.put_counter.Goals as goal
 

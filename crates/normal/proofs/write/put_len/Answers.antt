@@ -1,5 +1,4 @@
 -- `put_len` writes a number and a letter, a comma behind each.
-use borrow.Author.Rules.{rules}
 use Rattle.normal.proofs.Piece.{rooms, commaed_then}
 use Rattle.normal.proofs.write.put_len.Goals as goal
 

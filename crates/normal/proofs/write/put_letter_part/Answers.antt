@@ -1,5 +1,4 @@
 -- `put_letter_part` writes a letter and a comma.
-use borrow.Author.Rules.{rules}
 use Rattle.normal.proofs.Piece.{rooms, pieces}
 use Rattle.normal.proofs.write.put_letter_part.Goals as goal
 

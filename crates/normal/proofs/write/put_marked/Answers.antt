@@ -1,5 +1,4 @@
 -- `put_marked` writes a mark and a number.
-use borrow.Author.Rules.{rules}
 use Rattle.normal.proofs.Piece.{rooms, pieces}
 use Rattle.normal.proofs.write.put_marked.Goals as goal
 

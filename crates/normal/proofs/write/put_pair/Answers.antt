@@ -1,5 +1,4 @@
 -- `put_pair` writes two letters.
-use borrow.Author.Rules.{rules}
 use Rattle.normal.proofs.Piece.{rooms, pieces}
 use Rattle.normal.proofs.write.put_pair.Goals as goal
 

@@ -1,5 +1,4 @@
 -- `put_part` writes a number and a comma.
-use borrow.Author.Rules.{rules}
 use Rattle.normal.proofs.Piece.{rooms, pieces}
 use Rattle.normal.proofs.write.put_part.Goals as goal
 

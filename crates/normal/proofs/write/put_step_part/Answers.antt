@@ -1,5 +1,4 @@
 -- `put_step_part` writes a step and a comma.
-use borrow.Author.Rules.{rules}
 use Rattle.normal.proofs.Piece.{rooms, pieces}
 use Rattle.normal.proofs.write.put_step_part.Goals as goal
 

@@ -1,5 +1,4 @@
 -- `put_three` writes three numbers, a comma behind each.
-use borrow.Author.Rules.{rules}
 use Rattle.normal.proofs.Piece.{rooms, commaed_then}
 use Rattle.normal.proofs.write.put_three.Goals as goal
 

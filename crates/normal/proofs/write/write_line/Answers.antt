@@ -1,6 +1,5 @@
 -- `write_line` writes the normal form of a record: built at the front of 256 bytes, and copied where it fits.
 use native.Mathlib.Omega.{arith}
-use borrow.Author.Rules.{rules}
 use borrow.Author.Tests.{not-true, not-false}
 use Rattle.normal.proofs.Lent.{meets_out, told_record, told_readable, meets_short, front_length, meets_room}
 use Rattle.normal.proofs.write.write_line.Goals as goal

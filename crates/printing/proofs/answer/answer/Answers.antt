@@ -1,5 +1,4 @@
 -- The definition of the form's plan judges the line; one that fits is written behind the others, and its value is noted.
-use borrow.Author.Rules.{rules}
 use native.Mathlib.Omega.{arith}
 use Rattle.printing.proofs.Standing.{planned_few, planned_inside, planned_given, planned_values}
 use Rattle.printing.proofs.Answering.{answer_asking, answer_count, answers_unfit, answer_room, answers_fit}

@@ -1,5 +1,4 @@
 -- `?` is taken in Open; elsewhere it is refused.
-use borrow.Author.Rules.{rules}
 use Rattle.session.proofs.Refusing.{minds_not_now, ask_not_now}
 use Rattle.printing.proofs.Answering.{asks}
 use Rattle.session.proofs.Tags.{tags}

@@ -1,5 +1,4 @@
 -- A set straight into the buffer, or by way of one in which every set has room.
-use borrow.Author.Rules.{rules}
 use Rattle.printing.proofs.Printed.{set_within, set_size, set_handed, set_given}
 use Rattle.printing.proofs.print.give.Goals as goal
 

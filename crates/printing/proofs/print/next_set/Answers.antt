@@ -1,5 +1,4 @@
 -- A set that has room is out.
-use borrow.Author.Rules.{rules}
 use native.Mathlib.Omega.{arith}
 use Rattle.printing.proofs.Standing.{planned_few, planned_inside, showing_planned, showing_kept, showing_ends, showing_inside, kept_answers, kept_given}
 use Rattle.printing.proofs.Printed.{printed_taking, printed_onward, takes_short, takes_set}

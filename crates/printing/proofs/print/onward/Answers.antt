@@ -1,5 +1,4 @@
 -- By whether the set was the last.
-use borrow.Author.Rules.{rules}
 use Rattle.session.proofs.Used.{kept_used}
 use Rattle.printing.proofs.Printed.{goes_idle, goes_onward}
 use Rattle.printing.proofs.print.onward.Goals as goal

@@ -1,5 +1,4 @@
 -- `P` in Ready: all counters hold, or one does not.
-use borrow.Author.Rules.{rules}
 use native.Mathlib.Omega.{arith}
 use borrow.Author.Tests.{not-true, not-false}
 use Rattle.session.proofs.Refusing.{minds_not_now, print_not_now}

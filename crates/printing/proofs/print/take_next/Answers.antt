@@ -1,5 +1,4 @@
 -- A take while Printing, and in every other state.
-use borrow.Author.Rules.{rules}
 use Rattle.printing.proofs.Printed.{takes_nothing}
 use Rattle.session.proofs.Tags.{tags}
 use Rattle.printing.proofs.print.take_next.Goals as goal

@@ -1,9 +1,6 @@
 -- None below the loop's number passes.
 use Prim.Native.Nat.{◌-◌}
-use mathlib.Core.Logic.{⊎_elim}
-use native.Mathlib.Omega.{arith}
-use borrow.Author.Rules.{rules}
-use Rattle.seats.proofs.Neighbours.{Passed, passed_begins, passed_room, passed_own, passed_turns, passed_found, passed_ends}
+use Rattle.seats.proofs.Neighbours.{Passed}
 use Rattle.seats.proofs.beside.is_beside.Given as goal
 
 abbrev pub invariant-loop-k : goal.invariant-loop-k

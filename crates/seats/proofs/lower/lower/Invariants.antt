@@ -1,8 +1,6 @@
 -- The sessions below the loop's number have followed.
 use Prim.Native.Nat.{◌-◌}
-use native.Mathlib.Omega.{arith}
-use borrow.Author.Rules.{rules}
-use Rattle.seats.proofs.Lowering.{Lowered, lowered_begins, lowered_turns, lowered_ends, lowered_room}
+use Rattle.seats.proofs.Lowering.{Lowered}
 use Rattle.seats.proofs.lower.lower.Given as goal
 
 abbrev pub invariant-loop-k : goal.invariant-loop-k

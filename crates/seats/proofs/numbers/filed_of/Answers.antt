@@ -1,4 +1,3 @@
-use borrow.Author.Rules.{rules}
 use Rattle.seats.proofs.Laid.{reads_filed}
 use Rattle.seats.proofs.numbers.filed_of.Goals as goal
 

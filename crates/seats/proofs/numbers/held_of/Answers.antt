@@ -1,4 +1,3 @@
-use borrow.Author.Rules.{rules}
 use Rattle.seats.proofs.Laid.{reads_held}
 use Rattle.seats.proofs.numbers.held_of.Goals as goal
 

@@ -1,5 +1,4 @@
 -- Four numbers, one by one.
-use borrow.Author.Rules.{rules}
 use Rattle.seats.proofs.Laid.{puts_code}
 use Rattle.seats.proofs.numbers.put_code.Goals as goal
 

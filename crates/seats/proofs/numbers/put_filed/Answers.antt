@@ -1,4 +1,3 @@
-use borrow.Author.Rules.{rules}
 use Rattle.seats.proofs.Laid.{puts_filed}
 use Rattle.seats.proofs.numbers.put_filed.Goals as goal
 

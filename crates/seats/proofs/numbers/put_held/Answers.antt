@@ -1,5 +1,4 @@
 -- Ten numbers, one by one.
-use borrow.Author.Rules.{rules}
 use Rattle.seats.proofs.Laid.{puts_held}
 use Rattle.seats.proofs.numbers.put_held.Goals as goal
 

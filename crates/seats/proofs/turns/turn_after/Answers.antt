@@ -1,7 +1,7 @@
 -- What is left to ask gives what was to be found.
 use native.Mathlib.Omega.{arith}
 use borrow.Author.Rules.{rules}
-use Rattle.seats.proofs.Turning.{Asking, asking_begins, asking_room, asking_turns, asking_found, asking_ends, onward_below}
+use Rattle.seats.proofs.Turning.{asking_begins, asking_room, asking_turns, asking_found, asking_ends, onward_below}
 use Rattle.seats.proofs.turns.turn_after.Goals as goal
 
 pub loop-left-init : goal.loop-left-init

@@ -1,8 +1,7 @@
 -- The loop keeps what was copied and what is still to come.
-use Prim.Native.Nat.{◌-◌}
 use borrow.Author.Rules.{rules}
 use native.Mathlib.Omega.{arith}
-use Rattle.session.proofs.Naming.{Copying, copy_begins, copy_room, copy_inside, copy_onward, copy_turns, copy_ends}
+use Rattle.session.proofs.Naming.{copy_begins, copy_room, copy_inside, copy_onward, copy_turns, copy_ends}
 use Rattle.session.proofs.name.name_of.Goals as goal
 
 pub loop-i-init : goal.loop-i-init

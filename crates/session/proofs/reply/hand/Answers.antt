@@ -1,5 +1,4 @@
 -- The bytes have room in the buffer, or it stays as it was.
-use borrow.Author.Rules.{rules}
 use Rattle.session.proofs.Lending.{hands_short, hands_bytes}
 use Rattle.session.proofs.reply.hand.Goals as goal
 

@@ -1,5 +1,4 @@
 -- The used bytes of the slices are wiped, and all values.
-use borrow.Author.Rules.{rules}
 use Rattle.session.proofs.Used.{fills_inside, fresh_wiped}
 use Rattle.session.proofs.state.fresh.Goals as goal
 

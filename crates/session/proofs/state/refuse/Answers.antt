@@ -1,4 +1,3 @@
-use borrow.Author.Rules.{rules}
 use Rattle.session.proofs.Tags.{tags}
 use Rattle.session.proofs.Held.{refuses, spoils, drops, stays}
 use Rattle.session.proofs.Used.{kept_used}

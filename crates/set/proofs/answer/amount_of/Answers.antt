@@ -1,8 +1,6 @@
 -- The loop keeps the number that the digits so far write.
-use Prim.Native.Nat.{◌-◌}
 use native.Mathlib.Omega.{arith}
-use lib.ListN.{length}
-use Rattle.set.proofs.Digits.{Summing, sum_begins, sum_small, sum_low, sum_high, sum_turns, sum_ends}
+use Rattle.set.proofs.Digits.{sum_begins, sum_small, sum_low, sum_high, sum_turns, sum_ends}
 use Rattle.set.proofs.answer.amount_of.Goals as goal
 
 pub loop-i-init : goal.loop-i-init

@@ -1,8 +1,6 @@
 -- The loop writes the zeros that are missing; the number follows them.
-use Prim.Native.Nat.{◌-◌}
 use borrow.Author.Rules.{rules}
-use native.Mathlib.Omega.{arith}
-use Rattle.set.proofs.Digits.{Zeros, zeros_begin, zeros_room, zeros_turn, number_room, number_ends, number_length}
+use Rattle.set.proofs.Digits.{zeros_begin, zeros_room, zeros_turn, number_room, number_ends, number_length}
 use Rattle.set.proofs.count.put_count.Goals as goal
 
 pub loop-there-init : goal.loop-there-init

@@ -1,5 +1,4 @@
 -- The loop keeps the power so far.
-use Prim.Native.Nat.{◌-◌, ◌^◌, ◌≤◌}
 use mathlib.Core.Path.{◌≡◌, sym}
 use native.Mathlib.Nat.{pow-zero}
 use native.Mathlib.Omega.{arith}

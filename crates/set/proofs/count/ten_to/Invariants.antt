@@ -1,9 +1,6 @@
 -- The loop keeps the power so far.
 use Prim.Native.Nat.{◌-◌, ◌^◌, ◌≤◌}
-use mathlib.Core.Path.{◌≡◌, sym}
-use native.Mathlib.Nat.{pow-zero}
-use native.Mathlib.Omega.{arith}
-use Rattle.set.proofs.Digits.{power_turns, power_nine}
+use mathlib.Core.Path.{◌≡◌}
 use Rattle.set.proofs.count.ten_to.Given as goal
 
 abbrev pub invariant-loop-i : goal.invariant-loop-i

@@ -1,5 +1,4 @@
 -- A part of the text, and what goes behind it.
-use borrow.Author.Rules.{rules}
 use Rattle.set.proofs.Numbers.{piece_within, piece_room, behind_room, piece_writes}
 use Rattle.set.proofs.take.put_piece.Goals as goal
 

@@ -1,8 +1,6 @@
 -- The loop writes one piece after the other.
 use Prim.Native.Nat.{◌-◌}
-use native.Mathlib.Omega.{arith}
-use borrow.Author.Rules.{rules}
-use Rattle.set.proofs.Numbers.{Going, going_begins, going_room, going_told, going_inside, going_turns, going_ends, going_length}
+use Rattle.set.proofs.Numbers.{Going}
 use Rattle.set.proofs.take.put_pieces.Given as goal
 
 abbrev pub invariant-loop-k : goal.invariant-loop-k

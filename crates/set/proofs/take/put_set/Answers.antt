@@ -1,5 +1,4 @@
 -- `N`, the pieces, and `P1,c`, one behind the other.
-use borrow.Author.Rules.{rules}
 use Rattle.set.proofs.Putting.{pieces_ready, print_room, copies_room, end_room, set_puts}
 use Rattle.set.proofs.take.put_set.Goals as goal
 

@@ -1,8 +1,6 @@
 -- The loop has moved the first of them.
-use Prim.Native.Nat.{◌-◌}
-use native.Mathlib.Omega.{arith}
 use borrow.Author.Rules.{rules}
-use Rattle.store.proofs.Moving.{Moving, moving_begins, moving_turns, moving_ends}
+use Rattle.store.proofs.Moving.{moving_begins, moving_turns, moving_ends}
 use Rattle.store.proofs.gap.move_bytes.Goals as goal
 
 pub loop-i-init : goal.loop-i-init

@@ -1,8 +1,6 @@
 -- The loop has moved the first of them.
 use Prim.Native.Nat.{◌-◌}
-use native.Mathlib.Omega.{arith}
-use borrow.Author.Rules.{rules}
-use Rattle.store.proofs.Moving.{Moving, moving_begins, moving_turns, moving_ends}
+use Rattle.store.proofs.Moving.{Moving}
 use Rattle.store.proofs.gap.move_numbers.Given as goal
 
 abbrev pub invariant-loop-i : goal.invariant-loop-i

@@ -1,8 +1,6 @@
 -- The loop has set the first of them to 0.
-use Prim.Native.Nat.{◌-◌}
-use native.Mathlib.Omega.{arith}
 use borrow.Author.Rules.{rules}
-use Rattle.store.proofs.Moving.{Wiping, wiping_begins, wiping_turns, wiping_ends}
+use Rattle.store.proofs.Moving.{wiping_begins, wiping_turns, wiping_ends}
 use Rattle.store.proofs.gap.wipe_numbers.Goals as goal
 
 pub loop-i-init : goal.loop-i-init

@@ -1,8 +1,6 @@
 -- The sum over the tablets that were asked.
-use Prim.Native.Nat.{◌-◌}
 use native.Mathlib.Omega.{arith}
-use borrow.Author.Rules.{rules}
-use Rattle.tablets.proofs.Left.{Summing, summing_begins, summing_few, summing_turns, summing_ends}
+use Rattle.tablets.proofs.Left.{summing_begins, summing_few, summing_turns, summing_ends}
 use Rattle.tablets.proofs.counts.all_left.Goals as goal
 
 pub loop-t-init : goal.loop-t-init

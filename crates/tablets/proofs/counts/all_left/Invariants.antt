@@ -1,8 +1,6 @@
 -- The sum over the tablets that were asked.
 use Prim.Native.Nat.{◌-◌}
-use native.Mathlib.Omega.{arith}
-use borrow.Author.Rules.{rules}
-use Rattle.tablets.proofs.Left.{Summing, summing_begins, summing_few, summing_turns, summing_ends}
+use Rattle.tablets.proofs.Left.{Summing}
 use Rattle.tablets.proofs.counts.all_left.Given as goal
 
 abbrev pub invariant-loop-t : goal.invariant-loop-t

@@ -1,5 +1,4 @@
 -- The count by the tests of the code.
-use borrow.Author.Rules.{rules}
 use Rattle.tablets.proofs.Left.{recount_same, recount_fewer, recount_more, recount_other}
 use Rattle.tablets.proofs.counts.recount.Goals as goal
 

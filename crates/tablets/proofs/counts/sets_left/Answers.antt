@@ -1,6 +1,5 @@
 -- By the tag of the tablet's state: only one that prints has sets left, those that were asked for without those that are out.
 use native.Mathlib.Omega.{arith}
-use borrow.Author.Rules.{rules}
 use Rattle.tablets.proofs.Left.{counts_length, over_left, silent_left, left_inside, printing_within, printing_left}
 use Rattle.tablets.proofs.counts.sets_left.Goals as goal
 

@@ -1,8 +1,5 @@
 -- The turn by the numbers, the set at that tablet's seat, and where it is accepted the turn and the count put right. Each need stands by itself.
-use mathlib.Core.Path.{◌∙◌}
 use native.Mathlib.Omega.{arith}
-use lib.ListN.{length-set}
-use borrow.Author.Rules.{rules}
 use Rattle.tablets.proofs.Leading.{reached_counts}
 use Rattle.tablets.proofs.Taking.{none_takes, turned_sits, refused_takes, seat_whole, moved_counted, accepted_takes}
 use Rattle.tablets.proofs.sets.take.Goals as goal

@@ -1,5 +1,4 @@
 -- By whether the line begins with the word of a take.
-use borrow.Author.Rules.{rules}
 use Rattle.talk.proofs.Asking.{asks_line, asks_room}
 use Rattle.talk.proofs.asked.asked_in.Goals as goal
 

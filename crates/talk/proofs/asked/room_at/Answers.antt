@@ -1,5 +1,4 @@
 -- One law for each return: no room, no space, no number, all of it there, and more behind it.
-use borrow.Author.Rules.{rules}
 use Rattle.talk.proofs.Asking.{asking}
 use Rattle.talk.proofs.asked.room_at.Goals as goal
 

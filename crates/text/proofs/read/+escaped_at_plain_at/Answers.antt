@@ -1,7 +1,5 @@
 -- `plain_at` and `escaped_at` answer where the paper's two moods close, one law for each return. The plain mood goes on where its run ends, and each call is behind the last, so what is left of the line falls.
-use Prim.Native.Nat.{ℕ, ◌-◌, ◌<◌}
 use native.Mathlib.Omega.{arith}
-use lib.ListN.{length}
 use borrow.Author.Rules.{rules}
 use Rattle.text.specs.Place.{run_end}
 use Rattle.text.proofs.Quote.{plain_run, plain_open, plain_shut, plain_turns, run_turns, escaped_open, escaped_goes}

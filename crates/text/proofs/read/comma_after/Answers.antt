@@ -1,5 +1,4 @@
 -- `comma_after` says what `with_comma` reads: no part, no comma, or both, one law for each return.
-use borrow.Author.Rules.{rules}
 use native.Mathlib.Omega.{arith}
 use Rattle.text.proofs.Place.{stands, comma_none, comma_lacks, comma_stands}
 use Rattle.text.proofs.read.comma_after.Goals as goal

@@ -1,9 +1,7 @@
 -- `more_digits` says what `more_digits` reads: the loop keeps what is left to read, and a digit more, or the end, says the whole.
 use borrow.Author.Rules.{rules}
 use native.Mathlib.Omega.{arith}
-use Rattle.paper.specs.Line.{more_digits}
-use Rattle.text.specs.Place.{from}
-use Rattle.text.proofs.Digits.{Counting, count_begins, count_turns, count_stops, count_ends, count_small, digit_small}
+use Rattle.text.proofs.Digits.{count_begins, count_turns, count_stops, count_ends, count_small, digit_small}
 use Rattle.text.proofs.read.more_digits.Goals as goal
 
 pub loop-left-init : goal.loop-left-init

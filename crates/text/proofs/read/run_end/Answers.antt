@@ -1,10 +1,5 @@
 -- `run_end` answers where a run ends: from `i` on it ends where it ends from the start on, and each return is the law of its byte.
-use mathlib.Core.Path.{◌≡◌}
-use Prim.Native.Nat.{◌-◌}
-use native.Mathlib.Omega.{arith}
-use lib.ListN.{length}
 use borrow.Author.Rules.{rules}
-use Rattle.text.specs.Place.{run_end}
 use Rattle.text.proofs.Quote.{run_past, run_stops, run_goes}
 use Rattle.text.proofs.read.run_end.Goals as goal
 

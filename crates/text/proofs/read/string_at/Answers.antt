@@ -1,5 +1,4 @@
 -- `string_at` answers the span of what `string` reads: no quote, a string left open, or one that closes, one law for each return.
-use borrow.Author.Rules.{rules}
 use native.Mathlib.Omega.{arith}
 use Rattle.text.proofs.Place.{stands}
 use Rattle.text.proofs.Quote.{string_none, string_open, string_closes}

@@ -1,5 +1,5 @@
 -- `decimal_len` counts the digits of `decimal`: one below 10, and one more than the tens. The number falls with each call.
-use Prim.Native.Nat.{ℕ, ◌<◌, ◌/◌}
+use Prim.Native.Nat.{◌/◌}
 use native.Mathlib.Omega.{arith}
 use borrow.Author.Rules.{rules}
 use Rattle.paper.proofs.Number.{decimal_is_within}

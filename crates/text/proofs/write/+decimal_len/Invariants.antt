@@ -1,9 +1,4 @@
 -- `decimal_len` counts the digits of `decimal`: one below 10, and one more than the tens. The number falls with each call.
-use Prim.Native.Nat.{ℕ, ◌<◌, ◌/◌}
-use native.Mathlib.Omega.{arith}
-use borrow.Author.Rules.{rules}
-use Rattle.paper.proofs.Number.{decimal_is_within}
-use Rattle.text.proofs.Written.{digits_one, digits_more}
 use Rattle.text.proofs.write.+decimal_len.Given as goal
 
 abbrev pub decreases-decimal_len : goal.decreases-decimal_len

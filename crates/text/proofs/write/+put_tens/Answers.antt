@@ -1,5 +1,5 @@
 -- `put_tens` writes `decimal` from 10 on: two digits, or the digits of the tens and the last one behind them. The number falls with each call.
-use Prim.Native.Nat.{ℕ, ◌<◌, ◌/◌}
+use Prim.Native.Nat.{◌/◌}
 use native.Mathlib.Omega.{arith}
 use borrow.Author.Rules.{rules}
 use Rattle.text.proofs.Written.{digits_one, digits_more, decimal_two, decimal_more}

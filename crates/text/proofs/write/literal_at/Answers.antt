@@ -1,5 +1,4 @@
 -- `literal_at` answers the place of the literal byte, one law for each return.
-use borrow.Author.Rules.{rules}
 use Rattle.text.proofs.Content.{literal_next, literal_here}
 use Rattle.text.proofs.write.literal_at.Goals as goal
 

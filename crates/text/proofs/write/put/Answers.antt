@@ -1,5 +1,4 @@
 -- `put` writes one byte: the store is such a write.
-use borrow.Author.Rules.{rules}
 use Rattle.text.proofs.Written.{writes_set}
 use Rattle.text.proofs.write.put.Goals as goal
 

@@ -1,9 +1,6 @@
 -- `put_all` writes a text: the loop has written its first bytes, and those from `i` on are still to come.
-use Prim.Native.Nat.{◌+◌, ◌-◌, ◌≤◌}
-use native.Mathlib.Omega.{arith}
-use lib.ListN.{length, drop}
 use borrow.Author.Rules.{rules}
-use Rattle.text.proofs.Written.{Writing, writes_length, copy_begins, copy_room, copy_turns, copy_ends}
+use Rattle.text.proofs.Written.{writes_length, copy_begins, copy_room, copy_turns, copy_ends}
 use Rattle.text.proofs.write.put_all.Goals as goal
 
 pub loop-i-init : goal.loop-i-init

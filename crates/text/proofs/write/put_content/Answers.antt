@@ -1,10 +1,7 @@
 -- `put_content` writes the escaping of a string's content: from `i` on the string still closes at `end`, and the escaping of its content from there is still to come. Each turn steps over one byte of the content.
-use Prim.Native.Nat.{◌-◌}
 use native.Mathlib.Omega.{arith}
 use borrow.Author.Rules.{rules}
-use Rattle.paper.specs.Line.{escape}
-use Rattle.text.specs.Place.{text_at, Closes}
-use Rattle.text.proofs.Written.{Writing, writing_begins, writing_room, writing_turns, writing_ends, writes_length}
+use Rattle.text.proofs.Written.{writing_begins, writing_room, writing_turns, writing_ends, writes_length}
 use Rattle.text.proofs.Content.{Steps, closes_steps, steps_escape, closes_escape}
 use Rattle.text.proofs.write.put_content.Goals as goal
 

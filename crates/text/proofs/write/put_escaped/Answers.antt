@@ -1,10 +1,6 @@
 -- `put_escaped` writes the escaping of a text: the loop has written that of its first bytes, and that of those from `i` on is still to come.
-use Prim.Native.Nat.{◌-◌, ◌≤◌}
-use native.Mathlib.Omega.{arith}
-use lib.ListN.{length, drop}
 use borrow.Author.Rules.{rules}
-use Rattle.paper.specs.Line.{escape}
-use Rattle.text.proofs.Written.{Writing, writing_begins, writing_room, writing_turns, writing_ends, writes_length}
+use Rattle.text.proofs.Written.{writing_begins, writing_room, writing_turns, writing_ends, writes_length}
 use Rattle.text.proofs.Content.{escape_next, escape_past}
 use Rattle.text.proofs.write.put_escaped.Goals as goal
 

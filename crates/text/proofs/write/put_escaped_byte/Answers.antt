@@ -1,5 +1,4 @@
 -- `put_escaped_byte` writes the escaping of one byte: what goes before it, and the byte.
-use borrow.Author.Rules.{rules}
 use native.Mathlib.Omega.{arith}
 use Rattle.text.proofs.Content.{escape_length, marked_room, put_marked}
 use Rattle.text.proofs.write.put_escaped_byte.Goals as goal

@@ -1,5 +1,4 @@
 -- `put_mark` writes what goes before a byte: a backslash, or nothing.
-use borrow.Author.Rules.{rules}
 use native.Mathlib.Omega.{arith}
 use mathlib.Core.Path.{ap}
 use lib.ListN.{length}

@@ -1,5 +1,4 @@
 -- `put_two` writes `two`: two writes, one behind the other.
-use borrow.Author.Rules.{rules}
 use Rattle.text.proofs.Written.{two_digits_written}
 use Rattle.text.proofs.write.put_two.Goals as goal
 

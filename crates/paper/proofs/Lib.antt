@@ -39,3 +39,4 @@ pub mod ClassProgramCases
 pub mod Changes
 pub mod Freeing
 pub mod FreeingAmong
+pub mod Order

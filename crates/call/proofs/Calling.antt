@@ -5,12 +5,12 @@ use mathlib.Core.Bool.{true}
 use mathlib.Core.List.{List, [], ◌∷◌}
 use native.Mathlib.Omega.{arith}
 use lib.ListN.{length, take, get_or}
+use Rattle.std.specs.Prelude.{Result}
 use Rattle.paper.specs.Byte.{every}
 use Rattle.paper.specs.Command.{is_shown}
 use Rattle.paper.specs.Line.{kept, control}
 use Rattle.paper.specs.Bench as P
 use Rattle.command.specs.View.{width}
-use Rattle.command.specs.declared.Answer.{Answer}
 use Rattle.command.specs.declared.Refusal.{Refusal}
 use Rattle.store.specs.Packed.{Store}
 use Rattle.store.specs.declared.Filed.{Filed}
@@ -18,9 +18,7 @@ use Rattle.session.specs.Memory.{Session, Shelf, session_of, shelf_of, packed_se
 use Rattle.session.specs.Outcome.{At, Does, Hears, Answers, Refuses, Takes, Showing, Planned, Kept, NotAnswering, after_line}
 use Rattle.call.specs.Call.{Memory, memory_of, laid, packed_bench, Reached, HearsLine, TakesSet}
 use Rattle.seats.specs.Numbers.{code_of, held_in, filed_in}
-use Rattle.session.specs.declared.change.Change.{Change}
 use Rattle.session.specs.declared.state.Held.{Held}
-use Rattle.session.specs.declared.state.Turn.{Turn}
 use Rattle.session.specs.declared.state.Mode.{Mode}
 use Rattle.session.specs.declared.state.Mode.TheVariants as M
 use Rattle.wait.specs.Waiting.{Waits, fault_of}
@@ -101,17 +99,17 @@ module _ (m : Memory) (h : Held) (rh : ReadsHeld m.held h) (k : Reached m) where
   reached_showing = record { shelf = shelf_in m reached_filed; texts = refl; planned = refl; at = reached_at reached_filed reached_reads }
 
 -- what a step leaves in memory
-does_laid : (o : P.Outcome) (n : ℕ) (old new : List ℕ) (answer : Answer) (next : Session) (more : Shelf) → Does o n old new answer next more → laid more next ≡ packed_bench o.next n
+does_laid : (o : P.Outcome) (n : ℕ) (old new : List ℕ) (answer : Result ℕ Refusal) (next : Session) (more : Shelf) → Does o n old new answer next more → laid more next ≡ packed_bench o.next n
 unfolding packed_bench
 does_laid o n old new answer next more d = ap (λ x. laid x next) d.shelf ∙ ap (laid (packed_shelf o.next.forms)) d.session
 
-module _ (m : Memory) (h : Held) (rh : ReadsHeld m.held h) (name text answers values held old new : List ℕ) (turn : Turn)
-    (t : Takes (session_in m h) m.all m.plans old new turn.answer (session_of turn.held name text answers values)) (e : held ≡ held_in turn.held) where
+module _ (m : Memory) (h : Held) (rh : ReadsHeld m.held h) (name text answers values held old new : List ℕ) (answer : Result ℕ Refusal) (next : Held)
+    (t : Takes (session_in m h) m.all m.plans old new answer (session_of next name text answers values)) (e : held ≡ held_in next) where
   -- the memory that a take leaves
   abbrev taken_in : Memory
   taken_in = memory_of m.all m.names m.texts m.lens m.plans m.filed name text answers values held
 
-  taken_does : (k : Reached m) → Does (P.take_set (length old) k.paper) k.number old new turn.answer (session_of turn.held name text answers values) (shelf_in m (reached_filed m h rh k))
+  taken_does : (k : Reached m) → Does (P.take_set (length old) k.paper) k.number old new answer (session_of next name text answers values) (shelf_in m (reached_filed m h rh k))
   unfolding P.take_set reached_at
   taken_does k = t.takes (shelf_in m (reached_filed m h rh k)) refl refl (reached_at m h rh k (reached_filed m h rh k) (reached_reads m h rh k))
 
@@ -121,10 +119,10 @@ module _ (m : Memory) (h : Held) (rh : ReadsHeld m.held h) (name text answers va
       let f : m.filed ≡ filed_in (packed_shelf k.paper.forms).store = ap (λ (x : Memory). x.filed) k.is in
       ap (λ x. memory_of m.all m.names m.texts m.lens m.plans x name text answers values held) f
       ∙ ap (λ x. memory_of m.all m.names m.texts m.lens m.plans (filed_in (packed_shelf k.paper.forms).store) name text answers values x) e
-      ∙ does_laid _ k.number old new turn.answer _ _ (taken_does k)
+      ∙ does_laid _ k.number old new answer _ _ (taken_does k)
 
   -- a set is taken from memory
-  takes_memory : Reached m → TakesSet m old taken_in new turn.answer
+  takes_memory : Reached m → TakesSet m old taken_in new answer
   unfolding P.take_set
   takes_memory k =
       record {
@@ -134,12 +132,12 @@ module _ (m : Memory) (h : Held) (rh : ReadsHeld m.held h) (name text answers va
       }
 
 module _ (m : Memory) (h : Held) (rh : ReadsHeld m.held h) (f : Filed) (rf : ReadsFiled m.filed f)
-    (all names texts lens plans filed name text answers values held s old new : List ℕ) (change : Change)
-    (t : Hears (session_in m h) (shelf_in m f) (kept s) old new change.answer (session_of change.held name text answers values) (shelf_of change.filed all names texts lens plans))
-    (e : held ≡ held_in change.held) (g : filed ≡ change.filed.used ∷ change.filed.count ∷ []) where
+    (all names texts lens plans filed name text answers values held s old new : List ℕ) (answer : Result ℕ Refusal) (next : Held) (more : Filed)
+    (t : Hears (session_in m h) (shelf_in m f) (kept s) old new answer (session_of next name text answers values) (shelf_of more all names texts lens plans))
+    (e : held ≡ held_in next) (g : filed ≡ more.used ∷ more.count ∷ []) where
   -- what a line does to memory
   heard_does : (k : Reached m)
-      → Does (P.hear width (length old) k.paper s) (after_line k.number k.paper.forms k.paper.session (kept s)) old new change.answer (session_of change.held name text answers values) (shelf_of change.filed all names texts lens plans)
+      → Does (P.hear width (length old) k.paper s) (after_line k.number k.paper.forms k.paper.session (kept s)) old new answer (session_of next name text answers values) (shelf_of more all names texts lens plans)
   unfolding reached_at P.hear
   heard_does k = t.hears (reached_at m h rh k f rf)
 
@@ -148,11 +146,11 @@ module _ (m : Memory) (h : Held) (rh : ReadsHeld m.held h) (f : Filed) (rf : Rea
   unfolding laid filed_in
   heard_is k =
       ap (λ x. memory_of all names texts lens plans x name text answers values held) g
-      ∙ ap (λ x. memory_of all names texts lens plans (change.filed.used ∷ change.filed.count ∷ []) name text answers values x) e
-      ∙ does_laid _ _ old new change.answer _ _ (heard_does k)
+      ∙ ap (λ x. memory_of all names texts lens plans (more.used ∷ more.count ∷ []) name text answers values x) e
+      ∙ does_laid _ _ old new answer _ _ (heard_does k)
 
   -- a line is heard by it
-  hears_memory : Reached m → HearsLine m s old (memory_of all names texts lens plans filed name text answers values held) new change.answer
+  hears_memory : Reached m → HearsLine m s old (memory_of all names texts lens plans filed name text answers values held) new answer
   unfolding P.hear
   hears_memory k =
       record {
@@ -181,15 +179,15 @@ unfolding held_in code_of
 other_tag h n k e = n (rw e)
 
 -- a line of which a session and the lent buffer hear beside every store with these plans
-module _ (m : Memory) (h : Held) (rh : ReadsHeld m.held h) (name text answers values held s b : List ℕ) (turn : Turn)
-    (t : (store : Store) → Hears (session_in m h) (record { store = store; plans = m.plans }) (kept s) b b turn.answer (session_of turn.held name text answers values) (record { store = store; plans = m.plans }))
-    (e : held ≡ held_in turn.held) (k : Reached m) where
-  stays_memory : HearsLine m s b (memory_of m.all m.names m.texts m.lens m.plans m.filed name text answers values held) b turn.answer
+module _ (m : Memory) (h : Held) (rh : ReadsHeld m.held h) (name text answers values held s b : List ℕ) (answer : Result ℕ Refusal) (next : Held)
+    (t : (store : Store) → Hears (session_in m h) (record { store = store; plans = m.plans }) (kept s) b b answer (session_of next name text answers values) (record { store = store; plans = m.plans }))
+    (e : held ≡ held_in next) (k : Reached m) where
+  stays_memory : HearsLine m s b (memory_of m.all m.names m.texts m.lens m.plans m.filed name text answers values held) b answer
   unfolding packed_bench laid filed_in reached_filed
   stays_memory =
       let f = reached_filed m h rh k in
       hears_memory m h rh f (reached_reads m h rh k) m.all m.names m.texts m.lens m.plans m.filed name text answers values held s b b
-      (record { answer = turn.answer; held = turn.held; filed = f }) (t _) e (ap (λ (x : Memory). x.filed) k.is) k
+      answer next f (t _) e (ap (λ (x : Memory). x.filed) k.is) k
 
 -- the same by the slices: the numbers
 pub slices_ten : (all names texts lens plans filed name text answers values held : List ℕ) → Reached (memory_of all names texts lens plans filed name text answers values held) → length held ≡ 10
@@ -204,11 +202,11 @@ module _ (all names texts lens plans filed name text answers values held : List 
   pub slices_showing : Showing (session_of h name text answers values) all plans
   slices_showing = reached_showing (memory_of all names texts lens plans filed name text answers values held) h rh k
 
-  pub slices_taken : (name' text' answers' values' held' old new : List ℕ) (turn : Turn)
-      → Takes (session_of h name text answers values) all plans old new turn.answer (session_of turn.held name' text' answers' values') → held' ≡ held_in turn.held
-      → TakesSet (memory_of all names texts lens plans filed name text answers values held) old (memory_of all names texts lens plans filed name' text' answers' values' held') new turn.answer
-  slices_taken name' text' answers' values' held' old new turn t e =
-      takes_memory (memory_of all names texts lens plans filed name text answers values held) h rh name' text' answers' values' held' old new turn t e k
+  pub slices_taken : (name' text' answers' values' held' old new : List ℕ) (answer : Result ℕ Refusal) (next : Held)
+      → Takes (session_of h name text answers values) all plans old new answer (session_of next name' text' answers' values') → held' ≡ held_in next
+      → TakesSet (memory_of all names texts lens plans filed name text answers values held) old (memory_of all names texts lens plans filed name' text' answers' values' held') new answer
+  slices_taken name' text' answers' values' held' old new answer next t e =
+      takes_memory (memory_of all names texts lens plans filed name text answers values held) h rh name' text' answers' values' held' old new answer next t e k
 
   -- for an answer: the state, the plans, and what is promised of it
   pub slices_answering : get_or held 0 0 ≡ 4 → h.mode ≡ M.Answering (get_or held 1 0)
@@ -229,37 +227,37 @@ module _ (all names texts lens plans filed name text answers values held : List 
   pub slices_at : (f : Filed) → ReadsFiled filed f → At (session_of h name text answers values) (shelf_of f all names texts lens plans)
   slices_at f rf = reached_at (memory_of all names texts lens plans filed name text answers values held) h rh k f rf
 
-  pub slices_heard : (f : Filed) → ReadsFiled filed f → (all' names' texts' lens' plans' filed' name' text' answers' values' held' s old new : List ℕ) (change : Change)
-      → Hears (session_of h name text answers values) (shelf_of f all names texts lens plans) (kept s) old new change.answer (session_of change.held name' text' answers' values') (shelf_of change.filed all' names' texts' lens' plans')
-      → held' ≡ held_in change.held → filed' ≡ change.filed.used ∷ change.filed.count ∷ []
-      → HearsLine (memory_of all names texts lens plans filed name text answers values held) s old (memory_of all' names' texts' lens' plans' filed' name' text' answers' values' held') new change.answer
-  slices_heard f rf all' names' texts' lens' plans' filed' name' text' answers' values' held' s old new change t e g =
-      hears_memory (memory_of all names texts lens plans filed name text answers values held) h rh f rf all' names' texts' lens' plans' filed' name' text' answers' values' held' s old new change t e g k
+  pub slices_heard : (f : Filed) → ReadsFiled filed f → (all' names' texts' lens' plans' filed' name' text' answers' values' held' s old new : List ℕ) (answer : Result ℕ Refusal) (next : Held) (more : Filed)
+      → Hears (session_of h name text answers values) (shelf_of f all names texts lens plans) (kept s) old new answer (session_of next name' text' answers' values') (shelf_of more all' names' texts' lens' plans')
+      → held' ≡ held_in next → filed' ≡ more.used ∷ more.count ∷ []
+      → HearsLine (memory_of all names texts lens plans filed name text answers values held) s old (memory_of all' names' texts' lens' plans' filed' name' text' answers' values' held') new answer
+  slices_heard f rf all' names' texts' lens' plans' filed' name' text' answers' values' held' s old new answer next more t e g =
+      hears_memory (memory_of all names texts lens plans filed name text answers values held) h rh f rf all' names' texts' lens' plans' filed' name' text' answers' values' held' s old new answer next more t e g k
 
   -- an answer is heard
   pub slices_planned : Planned (session_of h name text answers values) plans
   slices_planned = record { store = _; at = reached_at (memory_of all names texts lens plans filed name text answers values held) h rh k _ (reached_reads (memory_of all names texts lens plans filed name text answers values held) h rh k) }
 
-  pub slices_answered : (name' text' answers' values' held' s b : List ℕ) (turn : Turn) → every is_shown s ≡ true
-      → Answers (session_of h name text answers values) plans s turn.answer (session_of turn.held name' text' answers' values') → held' ≡ held_in turn.held
-      → HearsLine (memory_of all names texts lens plans filed name text answers values held) s b (memory_of all names texts lens plans filed name' text' answers' values' held') b turn.answer
-  slices_answered name' text' answers' values' held' s b turn y t e =
-      stays_memory (memory_of all names texts lens plans filed name text answers values held) h rh name' text' answers' values' held' s b turn
+  pub slices_answered : (name' text' answers' values' held' s b : List ℕ) (answer : Result ℕ Refusal) (next : Held) → every is_shown s ≡ true
+      → Answers (session_of h name text answers values) plans s answer (session_of next name' text' answers' values') → held' ≡ held_in next
+      → HearsLine (memory_of all names texts lens plans filed name text answers values held) s b (memory_of all names texts lens plans filed name' text' answers' values' held') b answer
+  slices_answered name' text' answers' values' held' s b answer next y t e =
+      stays_memory (memory_of all names texts lens plans filed name text answers values held) h rh name' text' answers' values' held' s b answer next
       (λ store. hears_shown _ _ s b b _ _ _ y (t.answers store b)) e k
 
   -- a line is refused for a control byte, or because it is too long
   pub slices_kept : Kept (session_of h name text answers values)
   slices_kept = let p = slices_planned in record { shelf = _; at = p.at }
 
-  pub slices_refused : (line : List ℕ) (n : ℕ) (name' text' answers' values' held' s b : List ℕ) (why : Refusal) (turn : Turn) → Waits (kept s) line n → control (take n line) ≡ true → why ≡ fault_of n
-      → Refuses why (session_of h name text answers values) turn.answer (session_of turn.held name' text' answers' values') → held' ≡ held_in turn.held
-      → HearsLine (memory_of all names texts lens plans filed name text answers values held) s b (memory_of all names texts lens plans filed name' text' answers' values' held') b turn.answer
-  slices_refused line n name' text' answers' values' held' s b why turn w c q r e =
-      stays_memory (memory_of all names texts lens plans filed name text answers values held) h rh name' text' answers' values' held' s b turn
+  pub slices_refused : (line : List ℕ) (n : ℕ) (name' text' answers' values' held' s b : List ℕ) (why : Refusal) (answer : Result ℕ Refusal) (next : Held) → Waits (kept s) line n → control (take n line) ≡ true → why ≡ fault_of n
+      → Refuses why (session_of h name text answers values) answer (session_of next name' text' answers' values') → held' ≡ held_in next
+      → HearsLine (memory_of all names texts lens plans filed name text answers values held) s b (memory_of all names texts lens plans filed name' text' answers' values' held') b answer
+  slices_refused line n name' text' answers' values' held' s b why answer next w c q r e =
+      stays_memory (memory_of all names texts lens plans filed name text answers values held) h rh name' text' answers' values' held' s b answer next
       (λ store. kept_fault _ _ s line n w b _ _ c (rw q at r)) e k
 
 -- what waits of a line is heard as the line
-pub hears_waiting : (m : Memory) (s line : List ℕ) (n : ℕ) (old : List ℕ) (next : Memory) (new : List ℕ) (r : Answer) → Waits (kept s) line n → HearsLine m (take n line) old next new r → HearsLine m s old next new r
+pub hears_waiting : (m : Memory) (s line : List ℕ) (n : ℕ) (old : List ℕ) (next : Memory) (new : List ℕ) (r : Result ℕ Refusal) → Waits (kept s) line n → HearsLine m (take n line) old next new r → HearsLine m s old next new r
 hears_waiting m s line n old next new r w t =
     record {
       reached = t.reached;

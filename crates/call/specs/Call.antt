@@ -1,11 +1,11 @@
 -- The memory of a bench, and what a call promises from memory that calls lead to.
-use Rattle.std.specs.Prelude.{ℕ, ◌≡◌, List, length}
+use Rattle.std.specs.Prelude.{ℕ, ◌≡◌, List, length, Result}
 use Rattle.paper.specs.Bench as P
 use Rattle.paper.specs.Line.{kept}
 use Rattle.paper.specs.State.{Sane}
 use Rattle.command.specs.View.{width}
 use Rattle.command.specs.Answer.{Meets}
-use Rattle.command.specs.declared.Answer.{Answer}
+use Rattle.command.specs.declared.Refusal.{Refusal}
 use Rattle.session.specs.Memory.{Session, Shelf, packed_session, packed_shelf, Opens}
 use Rattle.session.specs.Outcome.{after_line}
 use Rattle.seats.specs.Numbers.{held_in, filed_in}
@@ -65,13 +65,13 @@ pub record Begins (self : Memory) : Type 0 where
   pub is : (n : ℕ) → self ≡ packed_bench P.begin n
 
 -- `hear`: the paper's answer with the lent buffer, and the memory of the bench that it leaves
-pub record HearsLine (self : Memory) (s old : List ℕ) (next : Memory) (new : List ℕ) (r : Answer) : Type 0 where
+pub record HearsLine (self : Memory) (s old : List ℕ) (next : Memory) (new : List ℕ) (r : Result ℕ Refusal) : Type 0 where
   pub reached : Reached next
   pub meets : (k : Reached self) → Meets (P.hear width (length old) k.paper s).answer old new r
   pub leaves : (k : Reached self) → next ≡ packed_bench (P.hear width (length old) k.paper s).next (after_line k.number k.paper.forms k.paper.session (kept s))
 
 -- `take`: the same of a set
-pub record TakesSet (self : Memory) (old : List ℕ) (next : Memory) (new : List ℕ) (r : Answer) : Type 0 where
+pub record TakesSet (self : Memory) (old : List ℕ) (next : Memory) (new : List ℕ) (r : Result ℕ Refusal) : Type 0 where
   pub reached : Reached next
   pub meets : (k : Reached self) → Meets (P.take_set (length old) k.paper).answer old new r
   pub leaves : (k : Reached self) → next ≡ packed_bench (P.take_set (length old) k.paper).next k.number

@@ -1,4 +1,5 @@
 // The calls of one session beside its store: a line, by whether an answer is asked for, a line that is refused, and a take.
+// Kept: slices one by one, since `lend` hands parts of arrays over, and of a struct of such parts its maker knows the lengths alone.
 #![tactic(auto)]
 
 ghost use Rattle.std.specs.Prelude.{◌≡◌, true, List, get_or, take, ℕ};
@@ -13,7 +14,7 @@ use listen::obey::listen;
 use printing::answer::answer;
 use printing::print::take_next;
 use seats::numbers::{filed_of, held_of, put_filed, put_held};
-use session::state::refuse;
+use session::state::Session;
 use wait::fault_of;
 
 // A line without control bytes where an answer is asked for.
@@ -38,10 +39,16 @@ pub fn hear_answer(
     ensures { HearsLine (memory_of all.now names.now texts.now lens.now plans.now filed.now name.old text.old answers.old values.old held.old) s.now reply.now (memory_of all.now names.now texts.now lens.now plans.now filed.now name.new text.new answers.new values.new held.new) reply.now result }
 {
     let k = held[1];
-    let turn = answer(held_of(held), name, text, answers, values, plans, s, k);
-    let next = turn.held;
-    put_held(held, next);
-    turn.answer
+    let mut session = Session {
+        held: held_of(held),
+        name,
+        text,
+        answers,
+        values,
+    };
+    let given = answer(&mut session, plans, s, k);
+    put_held(held, session.held);
+    given
 }
 
 // A line without control bytes where none is.
@@ -65,13 +72,17 @@ pub fn hear_command(
     requires s_value { every is_shown s.now ≡ true }
     ensures { HearsLine (memory_of all.old names.old texts.old lens.old plans.old filed.old name.old text.old answers.old values.old held.old) s.now reply.old (memory_of all.new names.new texts.new lens.new plans.new filed.new name.new text.new answers.new values.new held.new) reply.new result }
 {
-    let change = listen(
-        held_of(held),
+    let mut session = Session {
+        held: held_of(held),
         name,
         text,
         answers,
         values,
-        filed_of(filed),
+    };
+    let mut store = filed_of(filed);
+    let answer = listen(
+        &mut session,
+        &mut store,
         all,
         names,
         texts,
@@ -80,11 +91,9 @@ pub fn hear_command(
         s,
         reply,
     );
-    let next = change.held;
-    let more = change.filed;
-    put_held(held, next);
-    put_filed(filed, more);
-    change.answer
+    put_held(held, session.held);
+    put_filed(filed, store);
+    answer
 }
 
 // A line with a control byte among the bytes that are kept of it, so many, is refused.
@@ -105,10 +114,16 @@ pub fn hear_fault(
     requires { Reached (memory_of all.now names.now texts.now lens.now plans.now filed.now name.old text.old answers.old values.old held.old) }
     ensures { (s line b : List ℕ) → Waits (kept s) line n → control (take n line) ≡ true → HearsLine (memory_of all.now names.now texts.now lens.now plans.now filed.now name.old text.old answers.old values.old held.old) s b (memory_of all.now names.now texts.now lens.now plans.now filed.now name.new text.new answers.new values.new held.new) b result }
 {
-    let turn = refuse(fault_of(n), held_of(held), name, text, answers, values);
-    let next = turn.held;
-    put_held(held, next);
-    turn.answer
+    let mut session = Session {
+        held: held_of(held),
+        name,
+        text,
+        answers,
+        values,
+    };
+    let answer = session.refuse(fault_of(n));
+    put_held(held, session.held);
+    answer
 }
 
 // One set, with a buffer for it.
@@ -129,8 +144,14 @@ pub fn take(
     requires { Reached (memory_of all.now names.now texts.now lens.now plans.now filed.now name.old text.old answers.old values.old held.old) }
     ensures { TakesSet (memory_of all.now names.now texts.now lens.now plans.now filed.now name.old text.old answers.old values.old held.old) set.old (memory_of all.now names.now texts.now lens.now plans.now filed.now name.new text.new answers.new values.new held.new) set.new result }
 {
-    let turn = take_next(held_of(held), name, text, answers, values, all, plans, set);
-    let next = turn.held;
-    put_held(held, next);
-    turn.answer
+    let mut session = Session {
+        held: held_of(held),
+        name,
+        text,
+        answers,
+        values,
+    };
+    let answer = take_next(&mut session, all, plans, set);
+    put_held(held, session.held);
+    answer
 }

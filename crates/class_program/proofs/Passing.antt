@@ -9,19 +9,16 @@ use lib.IntN.{ℤ}
 use Rattle.paper.specs.Line.{kept}
 use Rattle.paper.proofs.Test.{either}
 use Rattle.text.specs.Place.{from}
-use Rattle.streams.specs.Streams.{Reads, Writes}
-use Rattle.streams.proofs.Telling.{of_bytes}
-use Rattle.streams.specs.declared.Read.{Read}
-use Rattle.streams.specs.declared.Read.TheVariants.{Bytes, End, Failed}
-use Rattle.streams.specs.declared.Written.{Written}
-use Rattle.streams.specs.declared.Written.TheVariants as W
+use Rattle.std.proofs.Common.{Result, Ok, Err}
+use Rattle.streams.specs.Streams.{bytes_of, Writes}
+use Rattle.streams.specs.declared.errors.Errno.{Errno}
 use Rattle.call.specs.Call.{Memory}
 use Rattle.tablets.specs.Calls.{Reached, Begins}
 use Rattle.tablets.proofs.Leading.{begins_on}
 use Rattle.dialogue.specs.Emit.{Standing, start}
 use Rattle.dialogue.specs.Fill.{Desk, desk_of, Place, At, Stands, Inside, Leads, Fills}
 use Rattle.dialogue.proofs.Filling.{leads_none, leads_then, goes_inside, Sized, sized_same, sized_then}
-use Rattle.class_program.specs.Pass.{Roomy, Passes, bytes_of, Obeys, Starting}
+use Rattle.class_program.specs.Pass.{Roomy, Passes, Obeys, Starting}
 use Rattle.class_program.specs.declared.Passed.{Passed}
 
 -- a run at a place in the input, with no byte in the buffer
@@ -82,33 +79,27 @@ module _ {d : Desk} {input reply₀ out₀ : List ℕ} {e : Desk} {next : ℕ} {
           let x = fills.goes.puts l.here l.at in
           omega (arith, x.outs.ends, length-append l.said x.leads.said)
 
-      -- standard output did not take it
-      pub passes_some : 0 < length (take q.out new) → Passes d input q.desk q.next false
-      passes_some h =
+      -- standard output did not take it, or the input is used up
+      pub passes_ends : (going : Bool) → (going ≡ false → 0 < length (take q.out new)) → (going ≡ true → used ≡ true) → Passes d input q.desk q.next going
+      passes_ends going lost whole =
           let p = passing_turns in
           record {
             stands = p.stands;
             leads = p.leads;
-            ends = λ g. absurd (false≢true g);
+            ends = λ g. fills.ends (whole g);
             moves = passing_moves;
-            speaks = λ g some. speaks (omega (arith, length-take q.out new));
+            speaks = λ g some. speaks (omega (arith, lost g, length-take q.out new));
           }
 
-      -- or the input is used up
-      pub passes_all : used ≡ true → Passes d input q.desk q.next true
-      passes_all u =
-          let p = passing_turns in
-          record { stands = p.stands; leads = p.leads; ends = λ g. fills.ends u; moves = passing_moves; speaks = λ g. absurd (false≢true (sym g)) }
-
 -- a write of no bytes does not fail
-pub failed_some : (n : ℕ) (written : Written) (error : ℤ) → written ≡ W.Failed error → Writes n written → 0 < n
-failed_some n written error e h = let some : Writes n (W.Failed error) = rw e at h in some.0
+pub failed_some : (n : ℕ) (written : Result Unit Errno) (error : Errno) → written ≡ Err error → Writes n written → 0 < n
+failed_some n written error e h = let some : Writes n (Err error) = rw e at h in some.0
 
 -- a run that ends
 abbrev last : ℕ → Passed
 last len = record { len = len; next = 0; going = false }
 
-module _ (len : ℕ) (memory : Memory) (waiting : List ℕ) (read : Read) (input : List ℕ) where
+module _ (len : ℕ) (memory : Memory) (waiting : List ℕ) (read : Result ℕ Errno) (input : List ℕ) where
   -- a read brought nothing
   obeys_none : bytes_of read ≡ 0 → Stands (desk_of len memory waiting) → Obeys (desk_of len memory waiting) read input (desk_of len memory waiting) 0 false
   unfolding from
@@ -119,23 +110,14 @@ module _ (len : ℕ) (memory : Memory) (waiting : List ℕ) (read : Read) (input
         stops = λ z. refl;
       }
 
-  -- the input has ended
-  pub obeys_end : (r : Passed) → read ≡ End → Stands (desk_of len memory waiting) → r ≡ last len → Obeys (desk_of len memory waiting) read input (desk_of r.len memory waiting) r.next r.going
-  unfolding bytes_of
-  obeys_end r e t is = rw is (obeys_none (rw e) t)
-
-  -- a read failed
-  pub obeys_failed : (r : Passed) (error : ℤ) → read ≡ Failed error → Stands (desk_of len memory waiting) → r ≡ last len
-      → Obeys (desk_of len memory waiting) read input (desk_of r.len memory waiting) r.next r.going
-  unfolding bytes_of
-  obeys_failed r error e t is = rw is (obeys_none (rw e) t)
+  pub obeys_nothing : (r : Passed) → bytes_of read ≡ 0 → Stands (desk_of len memory waiting) → r ≡ last len → Obeys (desk_of len memory waiting) read input (desk_of r.len memory waiting) r.next r.going
+  obeys_nothing r e t is = rw is (obeys_none e t)
 
 -- or it brought some bytes
-pub obeys_bytes : (d : Desk) (read : Read) (input : List ℕ) (n : ℕ) (e : Desk) (next : ℕ) (going : Bool) → read ≡ Bytes n → Reads input read → Passes d (take n input) e next going
+pub obeys_bytes : (d : Desk) (read : Result ℕ Errno) (input : List ℕ) (n : ℕ) (e : Desk) (next : ℕ) (going : Bool) → read ≡ Ok n → (n ≡ 0 → ⊥) → Passes d (take n input) e next going
     → Obeys d read input e next going
-unfolding bytes_of
 obeys_bytes d read input n e next going is some p =
-    record { passes = rw is p; stops = λ z. absurd (omega (arith, (of_bytes input some is).0, rw is at z)) }
+    record { passes = rw is p; stops = λ z. absurd (some (rw is at z)) }
 
 -- a run with nothing that waits stands at the start with a class that has just begun
 pub begins_at : (m : Memory) (wait : List ℕ) → Begins m → length wait ≡ 263 → At (desk_of 0 m wait) start
@@ -173,7 +155,7 @@ module _ {d₀ : Desk} {input₀ reply₀ out₀ : List ℕ} {d : Desk} {input r
   reading_roomy = record { reply_room = omega (arith, t.reply_size, t.roomy.reply_room); out_room = omega (arith, t.out_size, t.roomy.out_room) }
 
   -- a read more
-  pub reading_turns : (e : Desk) (new newReply new_out : List ℕ) (read : Read) (next : ℕ) (going : Bool) → Obeys d read new e next going → Sized d e
+  pub reading_turns : (e : Desk) (new newReply new_out : List ℕ) (read : Result ℕ Errno) (next : ℕ) (going : Bool) → Obeys d read new e next going → Sized d e
       → length new ≡ length input → length newReply ≡ length reply → length new_out ≡ length out → Reading d₀ input₀ reply₀ out₀ e new newReply new_out
   reading_turns e new newReply new_out read next going o sizes i j k =
       record {

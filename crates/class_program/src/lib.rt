@@ -12,7 +12,7 @@ ghost use Rattle.class_program.specs.Pass.{Roomy, Passes, Obeys, Starting};
 use dialogue::fill::{Reach, fill};
 use std::io;
 use std::rt::Clock;
-use streams::{Read, Written, complain, read_some, write_whole};
+use streams::{Errno, complain, read_some, write_whole};
 
 // Writes out the records that wait, and answers whether standard output took them all. Where it did not, a last line on standard
 // error says so.
@@ -25,8 +25,8 @@ fn write_out(
     ensures { result ≡ false → 0 < length out.now }
 {
     match write_whole(clock, to, out) {
-        Written::Whole => true,
-        Written::Failed { error } => {
+        Ok(()) => true,
+        Err(error) => {
             complain(clock, errors, b"bench: standard output", error);
             false
         }
@@ -35,7 +35,8 @@ fn write_out(
 
 // Where a piece of input led: how many bytes of a line wait, up to which place the input was used, and whether the run goes on. It does
 // not where standard output or standard input failed, nor where the input has ended.
-#[derive(Clone, Copy)]
+// Kept: Passes and Obeys tell of both outcomes where the run stands, so that an enum of two variants with the same fields is no plainer.
+#[derive(Clone, Copy, Debug, PartialEq, Eq)]
 pub struct Passed {
     pub len: usize,
     pub next: usize,
@@ -71,41 +72,17 @@ fn pass(
     let mut len = len;
     let mut next = 0;
     loop {
+        let start = Reach { len, next, out: 0 };
         let filled = fill(
-            Reach { len, next, out: 0 },
-            all,
-            names,
-            texts,
-            lens,
-            plans,
-            filed,
-            name,
-            text,
-            answers,
-            values,
-            held,
-            waiting,
-            input,
-            reply,
-            out,
+            start, all, names, texts, lens, plans, filed, name, text, answers, values, held,
+            waiting, input, reply, out,
         );
         let reach = filled.reach;
         len = reach.len;
         next = reach.next;
-        let end = reach.out;
-        if !write_out(clock, to, errors, &out[..end]) {
-            return Passed {
-                len,
-                next,
-                going: false,
-            };
-        }
-        if filled.used {
-            return Passed {
-                len,
-                next,
-                going: true,
-            };
+        let going = write_out(clock, to, errors, &out[..reach.out]);
+        if !going || filled.used {
+            return Passed { len, next, going };
         }
     }
 }
@@ -128,7 +105,7 @@ fn obey(
     to: &mut impl io::Write,
     errors: &mut impl io::Write,
     len: usize,
-    read: Read,
+    read: Result<usize, Errno>,
     all: &mut [u8],
     names: &mut [u8],
     texts: &mut [usize],
@@ -151,7 +128,8 @@ fn obey(
     ensures { Obeys (desk_of len (memory_of all.old names.old texts.old lens.old plans.old filed.old name.old text.old answers.old values.old held.old) waiting.old) read input.now (desk_of result.len (memory_of all.new names.new texts.new lens.new plans.new filed.new name.new text.new answers.new values.new held.new) waiting.new) result.next result.going }
 {
     match read {
-        Read::Bytes { n } => pass(
+        Ok(0) => ended(len),
+        Ok(n) => pass(
             clock,
             to,
             errors,
@@ -172,8 +150,7 @@ fn obey(
             reply,
             out,
         ),
-        Read::End => ended(len),
-        Read::Failed { error } => {
+        Err(error) => {
             complain(clock, errors, b"bench: standard input", error);
             ended(len)
         }
@@ -202,7 +179,10 @@ fn begun(
     0usize
 }
 
-// Reads and answers until the input ends. A proved loop has to end too: this one ends after 2^47 reads.
+// A proved loop has to end: that of the reads ends after so many, which are 2^47.
+const TURNS: u64 = 0x8000_0000_0000;
+
+// Reads and answers until the input ends.
 pub fn run(
     clock: &impl Clock,
     from: &mut impl io::Read,
@@ -230,8 +210,7 @@ pub fn run(
     let mut len = begun(
         all, names, texts, lens, plans, filed, name, text, answers, values, held, &waiting,
     );
-    let mut turns = 0x8000_0000_0000u64;
-    while 0 < turns {
+    for _ in 0..TURNS {
         let read = read_some(clock, from, input);
         let passed = obey(
             clock,
@@ -259,6 +238,5 @@ pub fn run(
             return;
         }
         len = passed.len;
-        turns -= 1;
     }
 }

@@ -2,16 +2,15 @@
 use mathlib.Core.Path.{◌≡◌, refl, sym, ◌∙◌, ap}
 use mathlib.Core.List.{List}
 use Prim.Native.Nat.{ℕ}
+use Rattle.std.specs.Prelude.{Result, Ok, Err}
 use Rattle.paper.specs.Refusal as R
 use Rattle.command.specs.View.{refusal_of}
 use Rattle.command.specs.Answer.{Reports, Meets}
 use Rattle.command.specs.declared.Refusal.{Refusal}
 use Rattle.command.specs.declared.Refusal.TheVariants as W
-use Rattle.command.specs.declared.Answer.{Answer}
-use Rattle.command.specs.declared.Answer.TheVariants as A
 
 -- a refused call writes nothing
-pub refused_keeps : (a : R.Answer) (old new : List ℕ) (why : Refusal) → Meets a old new (A.Refused why) → new ≡ old
+pub refused_keeps : (a : R.Answer) (old new : List ℕ) (why : Refusal) → Meets a old new (Err why) → new ≡ old
 unfolding Reports R.lent
 refused_keeps (R.accepted bytes) old new why m = absurd m.reports
 refused_keeps (R.refused r) old new why m = m.buffer
@@ -62,16 +61,16 @@ refusal_back W.NoTablet = refl
 refusal_back W.HeldOpen = refl
 
 -- two answers that report the same are one
-reports_one : (a : R.Answer) (r r' : Answer) → Reports r a → Reports r' a → r ≡ r'
+reports_one : (a : R.Answer) (r r' : Result ℕ Refusal) → Reports r a → Reports r' a → r ≡ r'
 unfolding Reports
-reports_one (R.accepted bytes) (A.Accepted len) (A.Accepted len') p q = ap A.Accepted (p ∙ sym q)
-reports_one (R.accepted bytes) (A.Accepted len) (A.Refused why) p q = absurd q
-reports_one (R.accepted bytes) (A.Refused why) r' p q = absurd p
-reports_one (R.refused x) (A.Accepted len) r' p q = absurd p
-reports_one (R.refused x) (A.Refused why) (A.Accepted len) p q = absurd q
-reports_one (R.refused x) (A.Refused why) (A.Refused why') p q =
-    ap A.Refused (sym (refusal_back why) ∙ ap refusal_for (p ∙ sym q) ∙ refusal_back why')
+reports_one (R.accepted bytes) (Ok len) (Ok len') p q = ap Ok (p ∙ sym q)
+reports_one (R.accepted bytes) (Ok len) (Err why) p q = absurd q
+reports_one (R.accepted bytes) (Err why) r' p q = absurd p
+reports_one (R.refused x) (Ok len) r' p q = absurd p
+reports_one (R.refused x) (Err why) (Ok len) p q = absurd q
+reports_one (R.refused x) (Err why) (Err why') p q =
+    ap Err (sym (refusal_back why) ∙ ap refusal_for (p ∙ sym q) ∙ refusal_back why')
 
 -- a call has one outcome: the answer and the buffer after it
-pub meets_one : (a : R.Answer) (old new new' : List ℕ) (r r' : Answer) → Meets a old new r → Meets a old new' r' → (new ≡ new') × (r ≡ r')
+pub meets_one : (a : R.Answer) (old new new' : List ℕ) (r r' : Result ℕ Refusal) → Meets a old new r → Meets a old new' r' → (new ≡ new') × (r ≡ r')
 meets_one a old new new' r r' p q = (p.buffer ∙ sym q.buffer, reports_one a r r' p.reports q.reports)

@@ -2,12 +2,12 @@
 #![tactic(auto)]
 
 pub mod range;
-pub mod refusals;
+mod refusals;
 
 use text::read::Span;
 
 // The refusals of the bench, in the order of their numbers.
-#[derive(Clone, Copy)]
+#[derive(Clone, Copy, Debug, PartialEq, Eq)]
 pub enum Refusal {
     TooLong,
     ControlByte,
@@ -31,7 +31,7 @@ pub enum Refusal {
 }
 
 // The five kinds of content of a text.
-#[derive(Clone, Copy)]
+#[derive(Clone, Copy, Debug, PartialEq, Eq)]
 pub enum Content {
     Text { string: Span },
     Counter { n: usize },
@@ -41,7 +41,7 @@ pub enum Content {
 }
 
 // The seven parameters of a text before its content, each under its letter in the profile's table.
-#[derive(Clone, Copy)]
+#[derive(Clone, Copy, Debug, PartialEq, Eq)]
 pub struct Setting {
     pub x: usize,
     pub y: usize,
@@ -53,14 +53,14 @@ pub struct Setting {
 }
 
 // A text command.
-#[derive(Clone, Copy)]
+#[derive(Clone, Copy, Debug, PartialEq, Eq)]
 pub struct Put {
     pub setting: Setting,
     pub content: Content,
 }
 
 // The place and size of a bar.
-#[derive(Clone, Copy)]
+#[derive(Clone, Copy, Debug, PartialEq, Eq)]
 pub struct Bar {
     pub x: usize,
     pub y: usize,
@@ -69,14 +69,14 @@ pub struct Bar {
 }
 
 // A counter's step. A step down is at least 1.
-#[derive(Clone, Copy)]
+#[derive(Clone, Copy, Debug, PartialEq, Eq)]
 pub enum Step {
     Up { n: usize },
     Down { n: usize },
 }
 
-// A command record, or the refusal of a line.
-#[derive(Clone, Copy)]
+// A command record. A line is read to one, or to a refusal.
+#[derive(Clone, Copy, Debug, PartialEq, Eq)]
 pub enum Command {
     Empty,
     New,
@@ -133,14 +133,7 @@ pub enum Command {
         sets: usize,
         copies: usize,
     },
-    Refused {
-        why: Refusal,
-    },
 }
 
-// The answer to a call that writes into a lent buffer.
-#[derive(Clone, Copy)]
-pub enum Answer {
-    Accepted { len: usize },
-    Refused { why: Refusal },
-}
+// The answer to a call that writes into a lent buffer: how many bytes it wrote, or why it is refused.
+pub type Answer = Result<usize, Refusal>;

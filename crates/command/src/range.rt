@@ -1,6 +1,8 @@
 // The ranges of the profile's table.
-ghost use Rattle.std.specs.Prelude.{◌≡◌, true, List, ltb, ℕ, ◌+◌, length, drop};
-ghost use Rattle.paper.specs.Byte.{between, every, same};
+#![tactic(auto, using(std::proofs::lemmas::Bool::Decides::nat_tests), unfolding(paper::specs::Command::in_range, paper::specs::Command::ranges, paper::specs::Command::draw_ranges, paper::specs::Command::define_ranges, paper::specs::Command::setting_ranges, paper::specs::Command::step_range, paper::specs::Command::texts, paper::specs::Command::is_name_byte, paper::specs::Line::is_digit, paper::specs::Command::all, paper::specs::Command::all_of, paper::specs::Byte::bytes, paper::specs::Byte::any, paper::specs::Byte::among, paper::specs::Byte::between, crate::specs::View::setting_of, crate::specs::View::step_of, crate::specs::View::bar_of))]
+
+ghost use Rattle.std.specs.Prelude.{◌≡◌, true, List, ltb, ℕ, ◌+◌, length};
+ghost use Rattle.paper.specs.Byte.{every, same};
 ghost use Rattle.paper.specs.Command.{size, direction, frame, black, counting, varying, draw, define, keep, print, is_shown, is_name_byte, is_name, star, content_ranges, setting_ranges, step_range, all, all_of, in_range};
 ghost use Rattle.command.specs.View.{width, text_in, step_of, content_of, setting_of, bar_of, Holds, ContentShown};
 
@@ -8,81 +10,50 @@ use crate::{Bar, Content, Setting, Step};
 use text::read::{Span, byte_at};
 use text::write::literal_at;
 
+// The dots across the label, and those down it.
+const WIDTH: usize = 812;
+
+const HEIGHT: usize = 8729;
+
 // A sum that is more than a bound.
 pub fn beyond(a: usize, b: usize, most: usize) -> bool
     ensures { result ≡ ltb most (a + b) }
 {
-    if most < a {
-        return true;
-    }
-    most - a < b
+    most < a || most - a < b
 }
 
 // The two lengths of a size.
 pub fn size_in(p1: usize, p2: usize) -> bool
     ensures { result ≡ in_range width (keep (draw (size p1 p2))) }
 {
-    if 8728 < p1 {
-        return false;
-    }
-    p2 <= 8728
+    p1 < HEIGHT && p2 < HEIGHT
 }
 
 // A direction's letter.
 pub fn direction_in(d: usize) -> bool
     ensures { result ≡ in_range width (keep (draw (direction d))) }
 {
-    if d == 84 {
-        return true;
-    }
-    d == 66
+    d == b'T' as usize || d == b'B' as usize
 }
 
 // The seven parameters of a text before its content.
 pub fn setting_in(s: Setting) -> bool
     ensures { result ≡ all_of (setting_ranges width (setting_of s)) }
 {
-    if 811 < s.x {
-        return false;
-    }
-    if 8728 < s.y {
-        return false;
-    }
-    if 3 < s.r {
-        return false;
-    }
-    if s.f < 1 {
-        return false;
-    }
-    if 5 < s.f {
-        return false;
-    }
-    scales_in(s)
-}
-
-// The last three of the seven: the scales and the mood of a text.
-fn scales_in(s: Setting) -> bool
-    ensures { result ≡ all_of (drop 4 (setting_ranges width (setting_of s))) }
-{
-    if s.h < 1 {
-        return false;
-    }
-    if 24 < s.h {
-        return false;
-    }
-    if s.v < 1 {
-        return false;
-    }
-    if 24 < s.v {
-        return false;
-    }
-    if s.m == 78 {
-        return true;
-    }
-    s.m == 82
+    s.x < WIDTH
+        && s.y < HEIGHT
+        && s.r <= 3
+        && 1 <= s.f
+        && s.f <= 5
+        && 1 <= s.h
+        && s.h <= 24
+        && 1 <= s.v
+        && s.v <= 24
+        && (s.m == b'N' as usize || s.m == b'R' as usize)
 }
 
 // The content of a text.
+#[tactic(auto, using(std::proofs::lemmas::Bool::Decides::nat_tests, crate::proofs::Judge::content_judged), unfolding(crate::proofs::Judge::content_in))]
 pub fn content_in(c: Content) -> bool
     ensures { (s : List ℕ) → ContentShown s c → result ≡ all_of (content_ranges (content_of s c)) }
 {
@@ -90,18 +61,8 @@ pub fn content_in(c: Content) -> bool
         Content::Text { string } => string.len <= 100,
         Content::Counter { n } => n <= 9,
         Content::Variable { n } => n <= 15,
-        Content::TextCounter { string, n } => {
-            if 100 < string.len {
-                return false;
-            }
-            n <= 9
-        }
-        Content::TextVariable { string, n } => {
-            if 100 < string.len {
-                return false;
-            }
-            n <= 15
-        }
+        Content::TextCounter { string, n } => string.len <= 100 && n <= 9,
+        Content::TextVariable { string, n } => string.len <= 100 && n <= 15,
     }
 }
 
@@ -109,44 +70,14 @@ pub fn content_in(c: Content) -> bool
 pub fn bar_in(b: Bar) -> bool
     ensures { result ≡ in_range width (bar_of black b) }
 {
-    if b.w < 1 {
-        return false;
-    }
-    if beyond(b.x, b.w, 812) {
-        return false;
-    }
-    if b.t < 1 {
-        return false;
-    }
-    if beyond(b.y, b.t, 8729) {
-        return false;
-    }
-    true
+    1 <= b.w && !beyond(b.x, b.w, WIDTH) && 1 <= b.t && !beyond(b.y, b.t, HEIGHT)
 }
 
 // A frame on the label.
 pub fn frame_in(x1: usize, y1: usize, t: usize, x2: usize, y2: usize) -> bool
     ensures { result ≡ in_range width (keep (draw (frame x1 y1 t x2 y2))) }
 {
-    if t < 1 {
-        return false;
-    }
-    if x2 <= x1 {
-        return false;
-    }
-    if 811 < x2 {
-        return false;
-    }
-    if x2 - x1 < t {
-        return false;
-    }
-    if y2 <= y1 {
-        return false;
-    }
-    if 8728 < y2 {
-        return false;
-    }
-    t <= y2 - y1
+    1 <= t && x1 < x2 && x2 < WIDTH && t <= x2 - x1 && y1 < y2 && y2 < HEIGHT && t <= y2 - y1
 }
 
 // A counter's step.
@@ -155,12 +86,7 @@ pub fn step_in(step: Step) -> bool
 {
     match step {
         Step::Up { n } => n <= 9999,
-        Step::Down { n } => {
-            if n < 1 {
-                return false;
-            }
-            n <= 9999
-        }
+        Step::Down { n } => 1 <= n && n <= 9999,
     }
 }
 
@@ -168,105 +94,44 @@ pub fn step_in(step: Step) -> bool
 pub fn counting_in(n: usize, len: usize, letter: usize, step: Step, prompt: Span) -> bool
     ensures { (p : List ℕ) → prompt.len ≡ length p → every is_shown p ≡ true → result ≡ in_range width (keep (define (counting n len letter (step_of step) p))) }
 {
-    if 9 < n {
-        return false;
-    }
-    if len < 1 {
-        return false;
-    }
-    if 9 < len {
-        return false;
-    }
-    if letter != 78 {
-        return false;
-    }
-    if 32 < prompt.len {
-        return false;
-    }
-    step_in(step)
+    n <= 9 && 1 <= len && len <= 9 && letter == b'N' as usize && step_in(step) && prompt.len <= 32
 }
 
 // A variable's definition.
 pub fn varying_in(n: usize, len: usize, letter: usize, prompt: Span) -> bool
     ensures { (p : List ℕ) → prompt.len ≡ length p → every is_shown p ≡ true → result ≡ in_range width (keep (define (varying n len letter p))) }
 {
-    if 15 < n {
-        return false;
-    }
-    if len < 1 {
-        return false;
-    }
-    if 99 < len {
-        return false;
-    }
-    if letter != 78 {
-        return false;
-    }
-    prompt.len <= 32
+    n <= 15 && 1 <= len && len <= 99 && letter == b'N' as usize && prompt.len <= 32
 }
 
 // Sets and copies.
 pub fn print_in(sets: usize, copies: usize) -> bool
     ensures { result ≡ in_range width (print sets copies) }
 {
-    if sets < 1 {
-        return false;
-    }
-    if 65535 < sets {
-        return false;
-    }
-    if copies < 1 {
-        return false;
-    }
-    copies <= 65535
-}
-
-// A byte between two others, both included.
-fn lies_between(low: u8, high: u8, b: u8) -> bool
-    ensures { result ≡ between low high b }
-{
-    if b < low {
-        return false;
-    }
-    b <= high
+    1 <= sets && sets <= 65535 && 1 <= copies && copies <= 65535
 }
 
 // A byte of a name.
 fn name_byte(b: u8) -> bool
     ensures { result ≡ is_name_byte b }
 {
-    if lies_between(65, 90, b) {
-        return true;
-    }
-    if lies_between(97, 122, b) {
-        return true;
-    }
-    if lies_between(48, 57, b) {
-        return true;
-    }
-    if b == 45 {
-        return true;
-    }
-    b == 95
+    matches!(b, b'A'..=b'Z' | b'a'..=b'z' | b'0'..=b'9' | b'-' | b'_')
 }
 
 // A name: 1 to 16 such bytes.
+#[tactic(auto, using(std::proofs::lemmas::Bool::Decides::nat_tests, crate::proofs::Name::name_empty, crate::proofs::Name::name_long, crate::proofs::Name::name_judged, crate::proofs::Held::walk_turns, crate::proofs::Held::walk_stops, crate::proofs::Held::walk_ends, text::proofs::Content::closes_steps))]
 pub fn name_in(s: &[u8], name: Span) -> bool
     requires { Holds s.now name }
     ensures { result ≡ is_name (text_in s.now name) }
 {
-    if name.len < 1 {
+    if name.len < 1 || 16 < name.len {
         return false;
     }
-    if 16 < name.len {
-        return false;
-    }
-    let end = name.end;
+    // Kept: the place steps over escapes, which no iterator does.
     let mut i = name.start;
-    while i < end {
+    while i < name.end {
         let literal = literal_at(s, i);
-        let b = s[literal];
-        if !name_byte(b) {
+        if !name_byte(s[literal]) {
             return false;
         }
         i = literal + 1;
@@ -275,13 +140,10 @@ pub fn name_in(s: &[u8], name: Span) -> bool
 }
 
 // The star that stands for every form.
+#[tactic(auto, using(std::proofs::lemmas::Bool::Decides::nat_tests, crate::proofs::Name::star_not, crate::proofs::Name::star_starts, crate::proofs::Name::star_judged))]
 pub fn is_star(s: &[u8], name: Span) -> bool
     requires { Holds s.now name }
     ensures { result ≡ same (text_in s.now name) star }
 {
-    if name.len != 1 {
-        return false;
-    }
-    let at = literal_at(s, name.start);
-    byte_at(s, at) == 42
+    name.len == 1 && byte_at(s, literal_at(s, name.start)) == b'*'
 }

@@ -12,14 +12,14 @@ ghost use Rattle.lend.specs.Laid.{numbered};
 ghost use Rattle.tablets.specs.Calls.{Reached, Warns, HearsLine};
 
 use command::{Answer, Refusal};
-use guard::{Guard, guarded};
+use guard::{Guard, Leaving, guarded};
 use lend::{seat_answer, seat_command, seat_fault};
 use line::clear::is_clear;
 use seats::lower::lower;
 use seats::numbers::{TABLETS, WIDTH, filed_of};
 use tablets::counts::{NUMBERS, recount};
 use text::read::byte_at;
-use wait::put_kept;
+use wait::{SEEN, put_kept};
 
 // The tags of a session that is Idle, and of one of which an answer is asked.
 const IDLE: usize = 0;
@@ -102,27 +102,17 @@ fn hear_filing(
     requires t_value { get_or held.old (t * 10) 0 ≡ 0 }
     ensures { HearsLine (memory_of all.old names.old texts.old lens.old plans.old filed.old name.old text.old answers.old values.old held.old) t s.now reply.old (memory_of all.new names.new texts.new lens.new plans.new filed.new name.new text.new answers.new values.new held.new) reply.new result }
 {
-    match warned(
+    let leaving = warned(
         all, names, texts, lens, plans, filed, name, text, answers, values, held, t, s,
-    ) {
-        Guard::Free => seat_command(
-            all, names, texts, lens, plans, filed, name, text, answers, values, held, t, s, reply,
-        ),
-        Guard::Collected => Answer::Refused {
-            why: Refusal::OthersCollect,
-        },
-        Guard::HeldOpen => Answer::Refused {
-            why: Refusal::HeldOpen,
-        },
-        Guard::Leaves { n, size } => {
-            let answer = seat_command(
-                all, names, texts, lens, plans, filed, name, text, answers, values, held, t, s,
-                reply,
-            );
-            follow(held, n, size);
-            answer
-        }
-    }
+    )?;
+    let answer = seat_command(
+        all, names, texts, lens, plans, filed, name, text, answers, values, held, t, s, reply,
+    );
+    let Some(Leaving { n, size }) = leaving else {
+        return answer;
+    };
+    follow(held, n, size);
+    answer
 }
 
 // A line without control bytes.
@@ -186,8 +176,8 @@ fn hear_dropped(
     requires t_bound { t < 30 }
     ensures { HearsLine (memory_of all.old names.old texts.old lens.old plans.old filed.old name.old text.old answers.old values.old held.old) t s.now reply.old (memory_of all.new names.new texts.new lens.new plans.new filed.new name.new text.new answers.new values.new held.new) reply.new result }
 {
-    let mut line = [0u8; 257];
-    let n = put_kept(&mut line, 0, s);
+    let mut line = [0u8; SEEN];
+    let n = put_kept::<SEEN>(&mut line, 0, s);
     if is_clear(&line[..n]) {
         return hear_shown(
             all,
@@ -234,9 +224,7 @@ pub fn hear_from(
     ensures { HearsLine (memory_of all.old names.old texts.old lens.old plans.old filed.old name.old text.old answers.old values.old held.old) t s.now reply.old (memory_of all.new names.new texts.new lens.new plans.new filed.new name.new text.new answers.new values.new held.new) reply.new result }
 {
     if TABLETS <= t {
-        return Answer::Refused {
-            why: Refusal::NoTablet,
-        };
+        return Err(Refusal::NoTablet);
     }
     if !shown {
         return hear_dropped(

@@ -21,8 +21,9 @@ use Rattle.flow.proofs.Cutting.{Line, part_ends, kept_none, rest_inside, rest_pa
 use Rattle.flow.proofs.Gathering.{clean_more}
 use Rattle.dialogue.specs.Emit.{Standing, line_reply, answered, answered_says, waiting}
 use Rattle.dialogue.specs.Tell.{Tells}
+use Rattle.wait.specs.Waiting.{Gathered, line_by}
 use Rattle.dialogue.specs.Waiting.{Waiting, Comes}
-use Rattle.dialogue.specs.Fill.{Desk, Place, place_of, At, Stands, Inside, Room, Gathered, line_by, Leads, Puts, Goes, Steps, Fills}
+use Rattle.dialogue.specs.Fill.{Desk, Place, place_of, At, Stands, Inside, Room, Leads, Puts, Goes, Steps, Fills}
 use Rattle.dialogue.specs.declared.fill.Reach.{Reach}
 use Rattle.dialogue.proofs.Gathering.{line_leads}
 use Rattle.dialogue.proofs.Emitting.{emit_answers, emit_waits, after_answers, after_waits}
@@ -135,7 +136,7 @@ module _ {input : List ℕ} {p : Place} {out₀ : List ℕ} (t : Stands p.desk) 
   module _ (end : ℕ) (before : end < length input) (rest : List ℕ) (shown : Bool) (new : List ℕ) (n : ℕ)
       (lies : Line input p.next end rest)
       (clear : shown ≡ true → (p.desk.len ≡ 0) × (every is_shown rest ≡ true))
-      (g : Gathered p.desk.waiting p.desk.len rest shown new n)
+      (g : Gathered 263 p.desk.waiting p.desk.len rest shown new n)
       (next : Memory) (out : List ℕ) (out_end : ℕ)
       (tells : Tells p.desk.memory (λ c. line_reply c (line_by shown rest (take n new))) out₀ p.out next out out_end) where
     puts_answers : (s : Standing) → At p.desk s → Puts s input p out₀ (answering_on end new next out_end) out
@@ -172,7 +173,7 @@ module _ {input : List ℕ} {p : Place} {out₀ : List ℕ} (t : Stands p.desk) 
 
   -- where it lies
   pub steps_answered : (end : ℕ) → Ending input p.next end → end < length input → (shown : Bool) → Clear input p.next p.desk.len end shown → (new : List ℕ) (n : ℕ)
-      → Gathered p.desk.waiting p.desk.len (take (end - p.next) (drop p.next input)) shown new n
+      → Gathered 263 p.desk.waiting p.desk.len (take (end - p.next) (drop p.next input)) shown new n
       → (said : List ℕ) → said ≡ line_by shown (take (end - p.next) (drop p.next input)) (take n new)
       → (next : Memory) (out : List ℕ) (out_end : ℕ) → Tells p.desk.memory (λ c. line_reply c said) out₀ p.out next out out_end
       → Steps input p out₀ (answering_on end new next out_end) false out
@@ -207,9 +208,9 @@ module _ {input : List ℕ} {p : Place} {out₀ : List ℕ} {q : Place} {out : L
         }
 
     -- which used the input up
-    pub fills_used : used ≡ true → Fills input p out₀ r true new
+    pub fills_used : used ≡ true → Fills input p out₀ r used new
     fills_used e =
-        record { goes = goes_then t.goes s.goes; ends = λ u. s.ends e; full = λ u. absurd (false≢true (sym u)); moves = λ u. absurd (false≢true (sym u)) }
+        record { goes = goes_then t.goes s.goes; ends = s.ends; full = λ u. absurd (false≢true (sym u ∙ e)); moves = λ u. absurd (false≢true (sym u ∙ e)) }
 
   -- the buffer is full
   pub fills_full : length out < q.out + 10357 → Fills input p out₀ q false out

@@ -20,8 +20,8 @@ use Rattle.flow.proofs.Cutting.{rest_part}
 use Rattle.flow.proofs.Gathering.{clean_more}
 use Rattle.talk.proofs.First.{call_first}
 use Rattle.dialogue.specs.Emit.{line_reply}
-use Rattle.dialogue.specs.Waiting.{Waits, Waiting, Comes}
-use Rattle.dialogue.specs.Fill.{Gathered, line_by}
+use Rattle.wait.specs.Waiting.{Gathered, line_by}
+use Rattle.dialogue.specs.Waiting.{Waits}
 
 -- a byte that is shown is not dropped
 shown_stays : (b : ℕ) → is_shown b ≡ true → stays b ≡ true
@@ -38,41 +38,23 @@ none_waits (b ∷ w) old h = absurd (omega (arith, h.counts, length-take 263 (b 
 
 -- the line where it lies
 pub line_leads : (c : Class) (w old : List ℕ) (len : ℕ) (rest : List ℕ) (shown : Bool) (new : List ℕ) (n : ℕ) → Waits w old len → kept w ≡ w
-    → (shown ≡ true → (len ≡ 0) × (every is_shown rest ≡ true)) → Gathered old len rest shown new n → line_reply c (line_by shown rest (take n new)) ≡ line_reply c (w ++ kept rest)
+    → (shown ≡ true → (len ≡ 0) × (every is_shown rest ≡ true)) → Gathered 263 old len rest shown new n → line_reply c (line_by shown rest (take n new)) ≡ line_reply c (w ++ kept rest)
 unfolding line_by line_reply
 line_leads c w old len rest shown new n h e clear g =
     either shown
     (λ y.
     let whole : kept rest ≡ rest = kept_stays rest (every_weaker is_shown stays shown_stays rest (clear y).1) in
     let none : w ≡ [] = none_waits w old (let zero-waits = (clear y).0 in rw zero-waits at h) in
-    ap (line_reply c) (if_true shown rest (take n new) y ∙ rw (none, whole)))
+    ap (line_reply c) (ap (λ b. line_by b rest (take n new)) y ∙ rw (none, whole)))
     (λ m.
     let clean : kept (w ++ kept rest) ≡ w ++ kept rest = clean_more w rest e in
     let all_stay : every stays (w ++ kept rest) ≡ true = rw clean at (stays_kept (w ++ kept rest)) in
-    ap (line_reply c) (if_false shown rest (take n new) m ∙ ((g.more m).comes w h).front) ∙ call_first width c (w ++ kept rest) all_stay)
-
--- `gather`: a line that is known to be clear
-pub gathers_none : (old : List ℕ) (len : ℕ) (rest : List ℕ) (shown : Bool) → shown ≡ true → Gathered old len rest shown old 0
-gathers_none old len rest shown y = record { inside = omega arith; size = refl; more = λ n. absurd (clash y n) }
-
--- or more of a line comes
-pub gathers_some : (old : List ℕ) (len : ℕ) (rest : List ℕ) (shown : Bool) (new : List ℕ) (n : ℕ) → Waiting old len → Comes old len rest new n → Gathered old len rest shown new n
-gathers_some old len rest shown new n w c =
-    let h = c.comes w.line w.waits in
-    record { inside = omega (arith, h.counts, h.room, length-take 263 (w.line ++ kept rest)); size = h.room ∙ sym w.waits.room; more = λ m. c }
-
--- `line_of`
-pub line_rest : (shown : Bool) (rest gathered : List ℕ) → shown ≡ true → rest ≡ line_by shown rest gathered
-unfolding line_by
-line_rest shown rest gathered y = sym (if_true _ _ _ y)
-
-pub line_gathered : (shown : Bool) (rest gathered : List ℕ) → shown ≡ false → gathered ≡ line_by shown rest gathered
-unfolding line_by
-line_gathered shown rest gathered n = sym (if_false _ _ _ n)
+    ap (line_reply c) (ap (λ b. line_by b rest (take n new)) m ∙ ((g.more m).comes w h).front) ∙ call_first width c (w ++ kept rest) all_stay)
 
 -- a line that is known to be clear is
 pub line_shown : (len : ℕ) (rest gathered said : List ℕ) (shown : Bool) → said ≡ line_by shown rest gathered → (shown ≡ true → (len ≡ 0) × (every is_shown rest ≡ true)) → shown ≡ true → every is_shown said ≡ true
-line_shown len rest gathered said shown e c y = rw (e ∙ sym (line_rest shown rest gathered y)) (c y).1
+unfolding line_by
+line_shown len rest gathered said shown e c y = rw (e, y) (c y).1
 
 -- and so is what a tablet sends in it
 shown_from : (n : ℕ) (s : List ℕ) → every is_shown s ≡ true → every is_shown (drop n s) ≡ true

@@ -1,5 +1,4 @@
 pub mod Emitting
 pub mod Filling
 pub mod Gathering
-pub mod Keeping
 pub mod Telling

@@ -9,6 +9,8 @@ use lib.ListN.{length, take, drop, length-append, length-drop}
 use lib.Seq.{take_at, length-take-le}
 use lib.Dec.{ltb, leb}
 use borrow.Author.Tests.{lt-ltb}
+use Rattle.std.specs.Prelude as Std
+use Rattle.std.specs.Prelude.{Result, Ok, Err}
 use Rattle.paper.specs.Byte.{when◌then◌else◌}
 use Rattle.paper.specs.Refusal as R
 use Rattle.paper.specs.Bench as P
@@ -25,8 +27,6 @@ use Rattle.paper.proofs.SetOf.{set_room}
 use Rattle.paper.proofs.Turn.{Passing, turn_passing}
 use Rattle.command.specs.View.{width, refusal_of}
 use Rattle.command.specs.Answer.{Reports, Meets}
-use Rattle.command.specs.declared.Answer.{Answer}
-use Rattle.command.specs.declared.Answer.TheVariants as A
 use Rattle.command.specs.declared.Refusal.{Refusal}
 use Rattle.command.specs.declared.Refusal.TheVariants as W
 use Rattle.text.specs.Place.{from}
@@ -44,7 +44,7 @@ use Rattle.dialogue.specs.Emit.{record_for, line_reply}
 use Rattle.dialogue.specs.Tell.{size_of, Shows, record_by, PutsRecord, Tells}
 
 -- the record of an accepted answer: its first line, and its bytes
-pub puts_ok : (tablet left : ℕ) (answer : Answer) (reply out : List ℕ) (at len : ℕ) (mid : List ℕ) (next : ℕ) (new : List ℕ) (end : ℕ) → answer ≡ A.Accepted len
+pub puts_ok : (tablet left : ℕ) (answer : Result ℕ Refusal) (reply out : List ℕ) (at len : ℕ) (mid : List ℕ) (next : ℕ) (new : List ℕ) (end : ℕ) → answer ≡ Ok len
     → Writes out at (ok_head tablet left len) mid next → Writes mid next (take len reply) new end → PutsRecord tablet left answer reply out at new end
 unfolding Reports record_by out_of
 puts_ok tablet left answer reply out at len mid next new end e u v = record { puts = puts }
@@ -60,7 +60,7 @@ puts_ok tablet left answer reply out at len mid next new end e u v = record { pu
     puts (R.refused r) s = absurd (let told = s.reports in rw e at told)
 
 -- of a refused one: its first line is all
-pub puts_no : (tablet left : ℕ) (answer : Answer) (reply out : List ℕ) (at : ℕ) (new : List ℕ) (end : ℕ) (why : Refusal) → answer ≡ A.Refused why
+pub puts_no : (tablet left : ℕ) (answer : Result ℕ Refusal) (reply out : List ℕ) (at : ℕ) (new : List ℕ) (end : ℕ) (why : Refusal) → answer ≡ Err why
     → Writes out at (no_head (refusal_of why)) new end → PutsRecord tablet left answer reply out at new end
 unfolding Reports record_by
 puts_no tablet left answer reply out at new end why e w = record { puts = puts }
@@ -70,20 +70,20 @@ puts_no tablet left answer reply out at new end why e w = record { puts = puts }
     puts (R.refused r) s = let same : refusal_of why ≡ r = let told = s.reports in rw e at told in rw same at w
 
 -- an accepted answer says how many bytes it has
-pub says_size : (answer : Answer) (len : ℕ) → answer ≡ A.Accepted len → size_of answer ≡ len
+pub says_size : (answer : Result ℕ Refusal) (len : ℕ) → answer ≡ Ok len → size_of answer ≡ len
 unfolding size_of
 says_size answer len e = rw e
 
 -- as many as the paper's
-reports_size : (p : R.Answer) (answer : Answer) → Reports answer p → size_of answer ≡ length (out_of p)
+reports_size : (p : R.Answer) (answer : Result ℕ Refusal) → Reports answer p → size_of answer ≡ length (out_of p)
 unfolding Reports size_of out_of
-reports_size (R.accepted bytes) (A.Accepted len) h = h
-reports_size (R.accepted bytes) (A.Refused why) h = absurd h
-reports_size (R.refused r) (A.Accepted len) h = absurd h
-reports_size (R.refused r) (A.Refused why) h = refl
+reports_size (R.accepted bytes) (Ok len) h = h
+reports_size (R.accepted bytes) (Err why) h = absurd h
+reports_size (R.refused r) (Ok len) h = absurd h
+reports_size (R.refused r) (Err why) h = refl
 
 -- they lie in the lent buffer
-pub meets_size : (p : R.Answer) (old new : List ℕ) (answer : Answer) → Meets p old new answer → length new ≡ length old → size_of answer ≤ length old
+pub meets_size : (p : R.Answer) (old new : List ℕ) (answer : Result ℕ Refusal) → Meets p old new answer → length new ≡ length old → size_of answer ≤ length old
 unfolding R.lent out_of
 meets_size (R.accepted bytes) old new answer m e =
     let size : length new ≡ length bytes + length (drop (length bytes) old) = ap length m.buffer ∙ length-append bytes (drop (length bytes) old) in
@@ -91,7 +91,7 @@ meets_size (R.accepted bytes) old new answer m e =
 meets_size (R.refused r) old new answer m e = omega (arith, reports_size (R.refused r) answer m.reports)
 
 -- at its front, whatever stands behind it
-pub meets_shows : (p : R.Answer) (old new rest : List ℕ) (answer : Answer) → Meets p old new answer → Shows p answer (new ++ rest)
+pub meets_shows : (p : R.Answer) (old new rest : List ℕ) (answer : Result ℕ Refusal) → Meets p old new answer → Shows p answer (new ++ rest)
 unfolding R.lent out_of
 meets_shows (R.accepted bytes) old new rest answer m =
     record { reports = m.reports; front = rw (m.buffer, append_assoc bytes) (take_at bytes _ (length bytes) refl) }
@@ -176,7 +176,7 @@ take_short room c sane = by_turn (turn c) (turn_passing c)
     by_turn (some t) p = set_short room c.forms (c.tablet t).session (sane.each t (p t refl).below)
 
 -- a line was heard, and its record put
-pub tells_hears : (self : Memory) (t : ℕ) (s old : List ℕ) (next : Memory) (new : List ℕ) (answer : Answer) → HearsLine self t s old next new answer → length old ≡ 10291
+pub tells_hears : (self : Memory) (t : ℕ) (s old : List ℕ) (next : Memory) (new : List ℕ) (answer : Result ℕ Refusal) → HearsLine self t s old next new answer → length old ≡ 10291
     → (left : ℕ) → SetsLeft next.held t left → (rest out : List ℕ) (at : ℕ) (more : List ℕ) (end : ℕ) → PutsRecord t left answer (new ++ rest) out at more end
     → Tells self (λ c. hear_from width enough c t s) out at next more end
 unfolding hears_on reached_counts enough
@@ -192,7 +192,7 @@ tells_hears self t s old next new answer h size left tells rest out at more end 
     }
 
 -- a set was taken, and its record put
-pub tells_takes : (self : Memory) (room : ℕ) (old : List ℕ) (next : Memory) (new : List ℕ) (served : ℕ) (answer : Answer) → TakesSet self old next new served answer → length old ≡ room
+pub tells_takes : (self : Memory) (room : ℕ) (old : List ℕ) (next : Memory) (new : List ℕ) (served : ℕ) (answer : Result ℕ Refusal) → TakesSet self old next new served answer → length old ≡ room
     → (left : ℕ) → SetsLeft next.held served left → (rest out : List ℕ) (at : ℕ) (more : List ℕ) (end : ℕ) → PutsRecord served left answer (new ++ rest) out at more end
     → Tells self (λ c. take_next room c) out at next more end
 unfolding takes_on reached_counts
@@ -210,37 +210,37 @@ tells_takes self room old next new served answer h size left tells rest out at m
     }
 
 -- its bytes are few
-pub takes_size : (self : Memory) (old : List ℕ) (next : Memory) (new : List ℕ) (served : ℕ) (answer : Answer) → Reached self → TakesSet self old next new served answer → size_of answer ≤ 10291
+pub takes_size : (self : Memory) (old : List ℕ) (next : Memory) (new : List ℕ) (served : ℕ) (answer : Result ℕ Refusal) → Reached self → TakesSet self old next new served answer → size_of answer ≤ 10291
 takes_size self old next new served answer k h =
     omega (arith, reports_size _ answer (h.meets k).reports, take_short (length old) k.class (reached_sane self k))
 
 -- and so are those of a reply
-pub hears_size : (self : Memory) (t : ℕ) (s old : List ℕ) (next : Memory) (new : List ℕ) (answer : Answer) → Reached self → HearsLine self t s old next new answer → length new ≡ length old → length old ≡ 10291
+pub hears_size : (self : Memory) (t : ℕ) (s old : List ℕ) (next : Memory) (new : List ℕ) (answer : Result ℕ Refusal) → Reached self → HearsLine self t s old next new answer → length new ≡ length old → length old ≡ 10291
     → size_of answer ≤ 10291
 hears_size self t s old next new answer k h e size = omega (arith, meets_size _ old new answer (h.meets k) e)
 
 -- an input line that a tablet sends
-module _ (s : List ℕ) (asked : Asked) (a : AsksLine s asked) where
-  asks_line : (tablet start : ℕ) → asked ≡ Q.Line tablet start → (c : Class) → line_reply c s ≡ hear_from width enough c tablet (from s start)
+module _ (s : List ℕ) (asked : Std.Option Asked) (a : AsksLine s asked) where
+  asks_line : (tablet start : ℕ) → asked ≡ Std.Some (Q.Line tablet start) → (c : Class) → line_reply c s ≡ hear_from width enough c tablet (from s start)
   unfolding line_reply reply_for reply_to said_call
   asks_line tablet start e c = ap (reply_for width c) (sym a.says ∙ ap (said_call s) e)
 
   -- a take
-  asks_take : (room : ℕ) → asked ≡ Q.Take room → (c : Class) → line_reply c s ≡ take_next room c
+  asks_take : (room : ℕ) → asked ≡ Std.Some (Q.Take room) → (c : Class) → line_reply c s ≡ take_next room c
   unfolding line_reply reply_for reply_to said_call
   asks_take room e c = ap (reply_for width c) (sym a.says ∙ ap (said_call s) e)
 
   -- neither
-  asks_none : asked ≡ Q.Neither → (c : Class) → line_reply c s ≡ denied R.no_tablet c
+  asks_none : asked ≡ Std.None → (c : Class) → line_reply c s ≡ denied R.no_tablet c
   unfolding line_reply reply_for said_call
   asks_none e c = ap (reply_for width c) (sym a.says ∙ ap (said_call s) e)
 
 -- its bytes start in the line, and a take names no more room than 5 digits can
-pub starts_inside : (s : List ℕ) (asked : Asked) → AsksLine s asked → (tablet start : ℕ) → asked ≡ Q.Line tablet start → start ≤ length s
+pub starts_inside : (s : List ℕ) (asked : Std.Option Asked) → AsksLine s asked → (tablet start : ℕ) → asked ≡ Std.Some (Q.Line tablet start) → start ≤ length s
 unfolding start_of
 starts_inside s asked a tablet start e = let inside = a.inside in rw e at inside
 
-pub room_small : (s : List ℕ) (asked : Asked) → AsksLine s asked → (room : ℕ) → asked ≡ Q.Take room → room ≤ 99999
+pub room_small : (s : List ℕ) (asked : Std.Option Asked) → AsksLine s asked → (room : ℕ) → asked ≡ Std.Some (Q.Take room) → room ≤ 99999
 unfolding room_in
 room_small s asked a room e = let small = a.small in rw e at small
 
@@ -249,17 +249,22 @@ tells_same : (self : Memory) (f g : Class → Reply) (out : List ℕ) (at : ℕ)
 tells_same self f g out at next new end e t =
     record { leaves = λ k. rw (e k.class) (t.leaves k); puts = λ k. rw (e k.class) (t.puts k) }
 
-module _ (self : Memory) (s : List ℕ) (asked : Asked) (a : AsksLine s asked) (out : List ℕ) (at : ℕ) (next : Memory) (new : List ℕ) (end : ℕ) where
-  pub tells_line : (tablet start : ℕ) → asked ≡ Q.Line tablet start → Tells self (λ c. hear_from width enough c tablet (take (length s - start) (drop start s))) out at next new end
+module _ (self : Memory) (s : List ℕ) (asked : Std.Option Asked) (a : AsksLine s asked) (out : List ℕ) (at : ℕ) (next : Memory) (new : List ℕ) (end : ℕ) where
+  pub tells_line : (tablet start : ℕ) → asked ≡ Std.Some (Q.Line tablet start) → Tells self (λ c. hear_from width enough c tablet (take (length s - start) (drop start s))) out at next new end
       → Tells self (λ c. line_reply c s) out at next new end
   unfolding from
   tells_line tablet start e t = tells_same self _ _ out at next new end (asks_line s asked a tablet start e) (rw (rest_part s start) at t)
 
-  pub tells_take : (room : ℕ) → asked ≡ Q.Take room → Tells self (λ c. take_next room c) out at next new end → Tells self (λ c. line_reply c s) out at next new end
+  pub tells_take : (room : ℕ) → asked ≡ Std.Some (Q.Take room) → Tells self (λ c. take_next room c) out at next new end → Tells self (λ c. line_reply c s) out at next new end
   tells_take room e t = tells_same self _ _ out at next new end (asks_take s asked a room e) t
 
+-- what asks nothing is none
+pub no_call : (asked : Std.Option Asked) → ((q : Asked) → asked ≡ Std.Some q → ⊥) → asked ≡ Std.None
+no_call Std.None h = refl
+no_call (Std.Some q) h = absurd (h q refl)
+
 -- a line that names no tablet leaves all as it was
-pub tells_none : (self : Memory) (s : List ℕ) (asked : Asked) → AsksLine s asked → (out : List ℕ) (at : ℕ) (new : List ℕ) (end : ℕ) → asked ≡ Q.Neither → Writes out at (no_head (refusal_of W.NoTablet)) new end
+pub tells_none : (self : Memory) (s : List ℕ) (asked : Std.Option Asked) → AsksLine s asked → (out : List ℕ) (at : ℕ) (new : List ℕ) (end : ℕ) → asked ≡ Std.None → Writes out at (no_head (refusal_of W.NoTablet)) new end
     → Tells self (λ c. line_reply c s) out at self new end
 unfolding denied record_for record_of refusal_of
 tells_none self s asked a out at new end e w =

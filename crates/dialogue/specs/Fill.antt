@@ -1,13 +1,12 @@
 -- What `step` and `fill` promise: which bytes stand behind those that wait, where the run stands then, and why it stopped.
 use Rattle.std.specs.Prelude.{ℕ, ◌+◌, ◌≤◌, ◌<◌, ◌≡◌, Bool, true, false, List, ◌++◌, length}
-use Rattle.paper.specs.Byte.{when◌then◌else◌}
 use Rattle.paper.specs.Line.{kept}
 use Rattle.text.specs.Place.{from}
 use Rattle.text.specs.Write.{Writes}
 use Rattle.call.specs.Call.{Memory}
 use Rattle.dialogue.specs.Emit.{Standing, after, emit}
 use Rattle.dialogue.specs.Tell.{Holds}
-use Rattle.dialogue.specs.Waiting.{Waits, Comes}
+use Rattle.dialogue.specs.Waiting.{Waits}
 use Rattle.dialogue.specs.declared.fill.Reach.{Reach}
 
 -- a run in memory: the class, the bytes that wait, and how many
@@ -50,16 +49,6 @@ pub record Room (r : Reach) (input reply out : List ℕ) : Type 0 where
   pub next_inside : r.next ≤ length input
   pub out_room : r.out + 10357 ≤ length out
   pub reply_room : 99999 ≤ length reply
-
--- `gather`: a line that is known to be clear stays in the input, and memory as it is; else its rest waits too
-pub record Gathered (old : List ℕ) (len : ℕ) (rest : List ℕ) (shown : Bool) (new : List ℕ) (n : ℕ) : Type 0 where
-  pub inside : n ≤ length new
-  pub size : length new ≡ length old
-  pub more : shown ≡ false → Comes old len rest new n
-
--- the bytes of a line: in the input, or gathered
-unfoldable pub line_by : Bool → List ℕ → List ℕ → List ℕ
-line_by shown rest gathered = when shown then rest else gathered
 
 -- from a standing, with input to come, to a run with input to come: what was said. Whatever follows, all that was to be said
 -- is this and what is still to be said, and the run comes to stand where it was to stand

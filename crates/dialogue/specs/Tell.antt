@@ -1,24 +1,23 @@
 -- What the calls of a class say in the program: a record of the paper behind the bytes that wait, and the paper's class in memory.
-use Rattle.std.specs.Prelude.{ℕ, ◌≡◌, List, ◌++◌, length, take}
+use Rattle.std.specs.Prelude.{ℕ, ◌≡◌, List, ◌++◌, length, take, Result, Ok, Err}
 use Rattle.paper.specs.Refusal as R
 use Rattle.paper.specs.Program.{out_of}
 use Rattle.paper.specs.Class.{Class, Reply}
 use Rattle.paper.specs.ClassProgram.{ok_head, no_head}
 use Rattle.command.specs.Answer.{Reports}
-use Rattle.command.specs.declared.Answer.{Answer}
-use Rattle.command.specs.declared.Answer.TheVariants as A
+use Rattle.command.specs.declared.Refusal.{Refusal}
 use Rattle.text.specs.Write.{Writes}
 use Rattle.call.specs.Call.{Memory}
 use Rattle.tablets.specs.Calls.{Reached}
 use Rattle.dialogue.specs.Emit.{record_for}
 
 -- how many bytes an answer says it wrote
-unfoldable pub size_of : Answer → ℕ
-size_of (A.Accepted len) = len
-size_of (A.Refused why) = 0
+unfoldable pub size_of : Result ℕ Refusal → ℕ
+size_of (Ok len) = len
+size_of (Err why) = 0
 
 -- an answer that reports the paper's, and its bytes at the front of a buffer
-pub record Shows (p : R.Answer) (answer : Answer) (reply : List ℕ) : Type 0 where
+pub record Shows (p : R.Answer) (answer : Result ℕ Refusal) (reply : List ℕ) : Type 0 where
   pub reports : Reports answer p
   pub front : take (length (out_of p)) reply ≡ out_of p
 
@@ -28,7 +27,7 @@ record_by (R.accepted bytes) tablet left = ok_head tablet left (length bytes) ++
 record_by (R.refused r) tablet left = no_head r
 
 -- `put_record`: it stands behind the bytes that wait
-pub record PutsRecord (tablet left : ℕ) (answer : Answer) (reply out : List ℕ) (at : ℕ) (new : List ℕ) (end : ℕ) : Type 0 where
+pub record PutsRecord (tablet left : ℕ) (answer : Result ℕ Refusal) (reply out : List ℕ) (at : ℕ) (new : List ℕ) (end : ℕ) : Type 0 where
   pub puts : (p : R.Answer) → Shows p answer reply → Writes out at (record_by p tablet left) new end
 
 -- memory of a class, to which calls lead

@@ -2,16 +2,18 @@
 ghost use Rattle.std.specs.Prelude.{◌<◌, ◌≡◌, length};
 ghost use Rattle.call.specs.Call.{memory_of};
 ghost use Rattle.flow.specs.Fill.{Ending, Clear};
-ghost use Rattle.dialogue.specs.Waiting.{Waiting};
-ghost use Rattle.dialogue.specs.Fill.{desk_of, place_of, Stands, Inside, Room, Gathered, line_by, Steps, Fills};
+ghost use Rattle.dialogue.specs.Fill.{desk_of, place_of, Stands, Inside, Room, Steps, Fills};
 
-use crate::keep::put_kept;
 use crate::records::{RECORD_ROOM, talk_line};
-use flow::cut::cut_at;
+use flow::cut::{Cut, cut_at};
+use wait::{gather, line_of, put_kept};
+
+// So many bytes of an input line are looked at: the longest number of a tablet with its space, and one more than its longest line has.
+const SEEN: usize = 263;
 
 // How far a run came: the bytes that wait for the end of their line, the place in the input, and where the bytes that wait for
 // standard output end.
-#[derive(Clone, Copy)]
+#[derive(Clone, Copy, Debug, PartialEq, Eq)]
 pub struct Reach {
     pub len: usize,
     pub next: usize,
@@ -19,31 +21,11 @@ pub struct Reach {
 }
 
 // The same, and whether the input is used up.
-#[derive(Clone, Copy)]
+// Kept: Steps and Fills tell of both outcomes where the run stands, so that an enum of two variants, each with a Reach, is no plainer.
+#[derive(Clone, Copy, Debug, PartialEq, Eq)]
 pub struct Filled {
     pub reach: Reach,
     pub used: bool,
-}
-
-// The rest of a line behind the bytes that wait of it; a line that is known to be clear lies in the input whole.
-fn gather(waiting: &mut [u8], len: usize, rest: &[u8], shown: bool) -> usize
-    requires { Waiting waiting.old len }
-    ensures { Gathered waiting.old len rest.now shown waiting.new result }
-{
-    if shown {
-        return 0;
-    }
-    put_kept(waiting, len, rest)
-}
-
-// A line where it lies: in the input, or gathered.
-fn line_of<'a>(rest: &'a [u8], gathered: &'a [u8], shown: bool) -> &'a [u8]
-    ensures { result.now ≡ line_by shown rest.now gathered.now }
-{
-    if shown {
-        return rest;
-    }
-    gathered
 }
 
 // A line that ends at a place is answered.
@@ -73,9 +55,9 @@ fn step_line(
     requires clear { Clear input.now reach.next reach.len end shown }
     ensures { Steps input.now (place_of reach (memory_of all.old names.old texts.old lens.old plans.old filed.old name.old text.old answers.old values.old held.old) waiting.old) out.old (place_of result.reach (memory_of all.new names.new texts.new lens.new plans.new filed.new name.new text.new answers.new values.new held.new) waiting.new) result.used out.new }
 {
-    let next = reach.next;
-    let n = gather(waiting, reach.len, &input[next..end], shown);
-    let s = line_of(&input[next..end], &waiting[..n], shown);
+    let rest = &input[reach.next..end];
+    let n = gather::<SEEN>(waiting, reach.len, rest, shown);
+    let s = line_of(rest, &waiting[..n], shown);
     let at = talk_line(
         all, names, texts, lens, plans, filed, name, text, answers, values, held, s, reply, out,
         reach.out, shown,
@@ -112,20 +94,19 @@ fn step(
     ensures { Steps input.now (place_of reach (memory_of all.old names.old texts.old lens.old plans.old filed.old name.old text.old answers.old values.old held.old) waiting.old) out.old (place_of result.reach (memory_of all.new names.new texts.new lens.new plans.new filed.new name.new text.new answers.new values.new held.new) waiting.new) result.used out.new }
 {
     let next = reach.next;
-    let cut = cut_at(input, next, reach.len);
-    let end = cut.end;
+    let Cut { end, shown } = cut_at(input, next, reach.len);
     if end == input.len() {
-        let len = put_kept(waiting, reach.len, &input[next..]);
+        let len = put_kept::<SEEN>(waiting, reach.len, &input[next..]);
         let reach = Reach {
             len,
             next: input.len(),
-            out: reach.out,
+            ..reach
         };
         return Filled { reach, used: true };
     }
     step_line(
         reach, all, names, texts, lens, plans, filed, name, text, answers, values, held, waiting,
-        input, end, reply, out, cut.shown,
+        input, end, reply, out, shown,
     )
 }
 
@@ -161,9 +142,9 @@ pub fn fill(
             reach, all, names, texts, lens, plans, filed, name, text, answers, values, held,
             waiting, input, reply, out,
         );
-        reach = filled.reach;
         if filled.used {
-            return Filled { reach, used: true };
+            return filled;
         }
+        reach = filled.reach;
     }
 }

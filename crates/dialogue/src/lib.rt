@@ -2,5 +2,4 @@
 #![tactic(auto)]
 
 pub mod fill;
-pub mod keep;
 pub mod records;

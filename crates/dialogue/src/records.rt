@@ -13,7 +13,7 @@ ghost use Rattle.dialogue.specs.Tell.{size_of, PutsRecord, Tells};
 use command::{Answer, Refusal};
 use desk::hear_from;
 use tablets::counts::sets_left;
-use tablets::sets::take;
+use tablets::sets::{Served, take};
 use talk::asked::{Asked, asked_in};
 use talk::heads::{HEAD_ROOM, put_no, put_ok};
 use text::write::put_all;
@@ -38,11 +38,11 @@ fn put_record(
     ensures { PutsRecord tablet left answer reply.now out.old at out.new result }
 {
     match answer {
-        Answer::Accepted { len } => {
+        Ok(len) => {
             let next = put_ok(out, at, tablet, left, len);
             put_all(out, next, &reply[..len])
         }
-        Answer::Refused { why } => put_no(out, at, why),
+        Err(why) => put_no(out, at, why),
     }
 }
 
@@ -129,8 +129,7 @@ fn talk_take(
         held,
         &mut reply[..room],
     );
-    let tablet = served.tablet;
-    let answer = served.answer;
+    let Served { tablet, answer } = served;
     let left = sets_left(held, tablet);
     put_record(out, at, tablet, left, answer, reply)
 }
@@ -159,7 +158,10 @@ pub fn talk_line(
     requires s_value { shown ≡ true → every is_shown s.now ≡ true }
     ensures { Tells (memory_of all.old names.old texts.old lens.old plans.old filed.old name.old text.old answers.old values.old held.old) (λ c. line_reply c s.now) out.old at (memory_of all.new names.new texts.new lens.new plans.new filed.new name.new text.new answers.new values.new held.new) out.new result }
 {
-    match asked_in(s) {
+    let Some(asked) = asked_in(s) else {
+        return put_no(out, at, Refusal::NoTablet);
+    };
+    match asked {
         Asked::Line { tablet, at: start } => talk_hear(
             all,
             names,
@@ -183,6 +185,5 @@ pub fn talk_line(
             all, names, texts, lens, plans, filed, name, text, answers, values, held, room, reply,
             out, at,
         ),
-        Asked::Neither => put_no(out, at, Refusal::NoTablet),
     }
 }

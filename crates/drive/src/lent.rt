@@ -15,7 +15,7 @@ use tablets::sets::take;
 const PLAYER: usize = 0;
 
 // What a line of the script asks for.
-#[derive(Clone, Copy)]
+#[derive(Clone, Copy, Debug, PartialEq, Eq)]
 pub enum Call {
     Hear,
     Inform,

@@ -1,6 +1,5 @@
 // Printing: bytes as a person reads them, and answers.
 use command::Answer;
-use command::refusals::number_of;
 
 // A text as it is.
 pub fn say(rt: &impl Print, text: &[u8]) {
@@ -37,14 +36,14 @@ pub fn show(rt: &impl Print, bytes: &[u8]) {
 // An answer: the bytes that it reports, or its number.
 pub fn show_answer(rt: &impl Print, answer: Answer) {
     match answer {
-        Answer::Accepted { len } => {
+        Ok(len) => {
             say(rt, b"accepted, ");
             say_number(rt, len);
             say(rt, b" bytes\n");
         }
-        Answer::Refused { why } => {
+        Err(why) => {
             say(rt, b"refused by ");
-            say_number(rt, number_of(why));
+            say_number(rt, usize::from(why));
             say(rt, b"\n");
         }
     }

@@ -11,6 +11,7 @@ use Rattle.text.proofs.Content.{closes_ends, closes_steps}
 use Rattle.command.specs.View.{text_in}
 use Rattle.store.specs.Packed.{Store}
 use Rattle.store.specs.Lent.{Finds}
+use Rattle.std.specs.Prelude.{Option}
 use Rattle.store.specs.declared.Found.{Found}
 use Rattle.session.specs.Outcome.{Named}
 
@@ -36,7 +37,7 @@ pub name_starts : (s : List ℕ) (string : Span) → Named s string → string.s
 name_starts s string h = omega (arith, text_fits s string.start string.end h.holds.closes)
 
 -- what is found under a name's bytes as they lie is found under the name, if it has no escape
-pub bare_finds : (store : Store) (s : List ℕ) (string : Span) (found : Found) → Named s string → string.end - string.start ≡ string.len
+pub bare_finds : (store : Store) (s : List ℕ) (string : Span) (found : Option Found) → Named s string → string.end - string.start ≡ string.len
     → Finds store (take (string.end - string.start) (drop string.start s)) found → Finds store (text_in s string) found
 unfolding text_in from
 bare_finds store s string found h e f =

@@ -4,7 +4,7 @@ use mathlib.Core.Path.{◌≡◌, refl, sym, ◌∙◌, ap}
 use mathlib.Core.Bool.{true, false, ◌&&◌, ◌||◌}
 use mathlib.Core.List.{List, [], ◌∷◌, ◌++◌}
 use native.Mathlib.Omega.{arith}
-use lib.ListN.{length, take, get_or, length-append}
+use lib.ListN.{length, take, drop, replicate, get_or, length-append}
 use lib.Seq.{length-take-le}
 use lib.Dec.{leb}
 use Rattle.paper.specs.Byte.{when◌then◌else◌, bytes, between, every, any, among, same}
@@ -17,15 +17,16 @@ use Rattle.paper.proofs.Law.{and_left, and_right}
 use Rattle.paper.proofs.Store.{without_absent}
 use Rattle.paper.proofs.Test.{either, clash}
 use Rattle.paper.proofs.Text.{same_eq}
-use Rattle.text.specs.Write.{Writes, padded}
+use Rattle.text.specs.Write.{padded}
 use Rattle.text.proofs.Padded.{padded_length}
 use Rattle.command.specs.View.{width}
 use Rattle.form.specs.Plan.{plan_of}
-use Rattle.store.specs.Gap.{bytes_at, zeros}
+use Rattle.store.specs.Gap.{closed}
 use Rattle.store.specs.Packed.{Store, entry, packed, find_from}
 use Rattle.store.specs.Lent.{Stocked, Finds, Stands, Leaves, Clears}
 use Rattle.store.specs.declared.Found.{Found}
-use Rattle.store.specs.declared.Found.TheVariants as F
+use Rattle.std.specs.Prelude as Std
+use Rattle.std.specs.Prelude.{Some, None}
 use Rattle.store.proofs.Leaving.{gap_closed}
 use Rattle.store.proofs.Standing.{stocks}
 use Rattle.session.specs.Memory.{Session, Shelf, named, entries_of, plans_of, packed_shelf}
@@ -73,7 +74,7 @@ stocks_few shelf k = (stocks_stocked shelf k).few
 
 -- every form leaves
 pub shelf_cleared : (shelf : Shelf) (less : Store) (plans : List ℕ) → Stocks shelf → Clears less
-    → Writes shelf.plans 0 (zeros (shelf.store.count * 232)) plans (0 + shelf.store.count * 232) → record { store = less; plans = plans } ≡ packed_shelf []
+    → plans ≡ replicate (shelf.store.count * 232) 0 ++ drop (shelf.store.count * 232) shelf.plans → record { store = less; plans = plans } ≡ packed_shelf []
 unfolding packed_shelf entries_of plans_of
 shelf_cleared shelf less plans k c w =
     let none = wiped 1856 shelf.plans _ plans (stocks_plans shelf k) w in
@@ -157,11 +158,11 @@ leaving_room shelf index start size less l r =
     )
 
 -- the form has left, and its plan with it
-pub shelf_leaves : (shelf : Shelf) (index start size : ℕ) (less : Store) (plans : List ℕ) (next : ℕ) → Leaves shelf.store index start size less
-    → Writes shelf.plans (index * 232) (bytes_at shelf.plans (index * 232 + 232) ((less.count - index) * 232) ++ zeros 232) plans next
+pub shelf_leaves : (shelf : Shelf) (index start size : ℕ) (less : Store) (plans : List ℕ) → Leaves shelf.store index start size less
+    → plans ≡ closed shelf.plans (index * 232) 232 ((less.count - index) * 232) 0
     → Left shelf index start size (record { store = less; plans = plans })
 unfolding packed_shelf plans_of
-shelf_leaves shelf index start size less plans next r w =
+shelf_leaves shelf index start size less plans r w =
     record {
       left = λ l.
           let a = l.at in
@@ -175,7 +176,7 @@ shelf_leaves shelf index start size less plans next r w =
           let old : shelf.plans ≡ padded 1856 (plans_of l.before ++ (plan_of l.here.lines ++ plans_of l.behind)) =
           ap (λ x. x.plans) a.there ∙ ap (λ fs. padded 1856 (plans_of fs)) l.forms ∙ ap (padded 1856) (plans_both l.before (l.here ∷ l.behind)) in
           let moved : plans ≡ padded 1856 (plans_of l.before ++ plans_of l.behind) =
-          gap_closed 1856 (plans_of l.before) (plan_of l.here.lines) (plans_of l.behind) shelf.plans plans (index * 232) 232 ((less.count - index) * 232) next old
+          gap_closed 1856 (plans_of l.before) (plan_of l.here.lines) (plans_of l.behind) shelf.plans plans (index * 232) 232 ((less.count - index) * 232) old
           (omega (arith, l.number)) (sym size-here) (omega (arith, l.number)) (omega arith) w in
           let kept = leaving_rest shelf index start size less r l in
           let both : padded 1856 (plans_of l.before ++ plans_of l.behind) ≡ padded 1856 (plans_of (l.before ++ l.behind)) = ap (padded 1856) (sym (plans_both l.before l.behind)) in
@@ -241,7 +242,7 @@ removes_all shelf name less d e p =
     }
 
 -- what is found under a name
-pub looked : (session : Session) (shelf : Shelf) (a : At session shelf) (key : List ℕ) (found : Found) → Finds shelf.store key found → find_from 0 0 key (entries_of a.forms) ≡ found
+pub looked : (session : Session) (shelf : Shelf) (a : At session shelf) (key : List ℕ) (found : Std.Option Found) → Finds shelf.store key found → find_from 0 0 key (entries_of a.forms) ≡ found
 unfolding at_stocked store_kept
 looked session shelf a key found f = sym (f.finds (at_stocked session shelf a).kept)
 
@@ -261,36 +262,36 @@ found_leaving session shelf a key index start size w =
       bytes = w.bytes;
     }
 
-pub finds_leaving : (shelf : Shelf) (key : List ℕ) (found : Found) (index start size : ℕ) → Stocks shelf → Finds shelf.store key found → found ≡ F.At index start size
-    → Leaving shelf index start size
-finds_leaving shelf key found index start size k f e =
+pub finds_leaving : (shelf : Shelf) (key : List ℕ) (found : Std.Option Found) (it : Found) → Stocks shelf → Finds shelf.store key found → found ≡ Some it
+    → Leaving shelf it.index it.start it.len
+finds_leaving shelf key found it k f e =
     let a = k.at in
-    found_leaving k.session shelf a key index start size
-    (entries_found key a.forms 0 0 index start size a.sane.forms.each (looked k.session shelf a key found f ∙ e))
+    found_leaving k.session shelf a key it.index it.start it.len
+    (entries_found key a.forms 0 0 it a.sane.forms.each (looked k.session shelf a key found f ∙ e))
 
 -- with a name its form leaves
-pub removes_one : (shelf : Shelf) (name : Name) (found : Found) (index start size : ℕ) (less : Shelf) → (get_or name.bytes 0 0 ≡ 42 → ⊥)
-    → Finds shelf.store (take name.len name.bytes) found → found ≡ F.At index start size → Left shelf index start size less → Removes shelf name less
+pub removes_one : (shelf : Shelf) (name : Name) (found : Std.Option Found) (it : Found) (less : Shelf) → (get_or name.bytes 0 0 ≡ 42 → ⊥)
+    → Finds shelf.store (take name.len name.bytes) found → found ≡ Some it → Left shelf it.index it.start it.len less → Removes shelf name less
 unfolding named P.deleted when◌then◌else◌ found_leaving
-removes_one shelf name found index start size less n f e l =
+removes_one shelf name found it less n f e l =
     record {
       removes = λ session a text is.
           let key = name_bytes name text is in
-          let seen : find_from 0 0 text (entries_of a.forms) ≡ F.At index start size = rw key at (looked session shelf a _ found f ∙ e) in
-          let w = entries_found text a.forms 0 0 index start size a.sane.forms.each seen in
-          l.left (found_leaving session shelf a text index start size w)
+          let seen : find_from 0 0 text (entries_of a.forms) ≡ Some it = rw key at (looked session shelf a _ found f ∙ e) in
+          let w = entries_found text a.forms 0 0 it a.sane.forms.each seen in
+          l.left (found_leaving session shelf a text it.index it.start it.len w)
           ∙ rw (not_star text (rw is at n)) (ap packed_shelf w.rest);
     }
 
 -- or none does, where it has none
-pub removes_none : (shelf : Shelf) (name : Name) (found : Found) → (get_or name.bytes 0 0 ≡ 42 → ⊥)
-    → Finds shelf.store (take name.len name.bytes) found → found ≡ F.Absent → Removes shelf name shelf
+pub removes_none : (shelf : Shelf) (name : Name) (found : Std.Option Found) → (get_or name.bytes 0 0 ≡ 42 → ⊥)
+    → Finds shelf.store (take name.len name.bytes) found → found ≡ None → Removes shelf name shelf
 unfolding named P.deleted when◌then◌else◌
 removes_none shelf name found n f e =
     record {
       removes = λ session a text is.
           let key = name_bytes name text is in
-          let seen : find_from 0 0 text (entries_of a.forms) ≡ F.Absent = rw key at (looked session shelf a _ found f ∙ e) in
+          let seen : find_from 0 0 text (entries_of a.forms) ≡ None = rw key at (looked session shelf a _ found f ∙ e) in
           let free = entries_absent text a.forms 0 0 seen in
           a.there ∙ rw (not_star text (rw is at n)) (ap packed_shelf (sym (without_absent text a.forms free)));
     }

@@ -1,6 +1,6 @@
 -- Collecting a form: its lines, and `FE`.
 use Prim.Native.Nat.{ℕ, suc, ◌+◌, ◌-◌, ◌*◌, ◌≤◌, ◌<◌}
-use mathlib.Core.Path.{◌≡◌, refl, sym, ◌∙◌, ap, subst}
+use mathlib.Core.Path.{◌≡◌, refl, sym, ◌∙◌, ap}
 use mathlib.Core.Bool.{Bool, true, false, not, ◌&&◌}
 use mathlib.Core.List.{List, [], ◌∷◌, ◌++◌, append_assoc}
 use mathlib.Core.Option.{Option, none, some}
@@ -10,8 +10,11 @@ use lib.ListN.{length, take, drop, length-append}
 use lib.Seq.{length-take-le}
 use lib.Dec.{leb, ltb}
 use borrow.Author.Tests.{leb-true, ltb-true, le-leb, not-true, not-false}
+use Rattle.std.specs.Prelude as Std
+use Rattle.std.specs.Prelude.{Result, Ok, Err}
 use Rattle.paper.specs.Command as C
-use Rattle.paper.specs.Command.{Define, FormLine, all, keep, file, finish}
+use Rattle.paper.specs.Read.{command}
+use Rattle.paper.specs.Command.{Define, FormLine, all, keep, file, finish, in_range}
 use Rattle.paper.specs.Form.{Form, text_of, within_limits, asked, rules, first_broken, unsound_at, has_room, stored}
 use Rattle.paper.specs.Write.{line_text, normal, lines_text}
 use Rattle.paper.specs.State.{all_in, Draft, Storable}
@@ -22,25 +25,21 @@ use Rattle.paper.proofs.RoundTrip.{read_in_range}
 use Rattle.text.specs.Write.{Writes, padded}
 use Rattle.text.proofs.Padded.{padded_length, padded_write}
 use Rattle.text.proofs.Written.{writes_then, writes_take}
-use Rattle.command.specs.View.{width, refusal_of, view_of}
+use Rattle.command.specs.View.{width, refusal_of, command_of, view_of}
 use Rattle.command.specs.declared.Command.{Command}
-use Rattle.command.specs.declared.Answer.{Answer}
-use Rattle.command.specs.declared.Answer.TheVariants as A
+use Rattle.command.specs.declared.Refusal.{Refusal}
 use Rattle.command.specs.declared.Refusal.TheVariants as W
 use Rattle.line.specs.Given.{IsRead}
-use Rattle.normal.specs.Normal.{record_held, readable, reading_text}
+use Rattle.normal.specs.Normal.{command_held, record_held}
 use Rattle.normal.proofs.RoundTrips.{stand_held}
 use Rattle.form.specs.Sound.{line_number}
 use Rattle.form.specs.Noting.{Plannable, Plans}
 use Rattle.store.specs.Packed.{Store, entry, packed}
 use Rattle.store.specs.Lent.{Spare, Joins}
-use Rattle.store.specs.declared.Filed.{Filed}
-use Rattle.session.specs.Memory.{Session, session_of, Shelf, shelf_of, drafts, drafting, packed_session, packed_shelf, entries_of, plans_of, after_filing, after_command}
+use Rattle.session.specs.Memory.{Session, session_of, Shelf, drafts, drafting, packed_session, packed_shelf, entries_of, plans_of, after_filing, after_command}
 use Rattle.session.specs.Outcome.{At, Kept, Used, Does, Minds, Files, Refuses, Keeps, Collects, Drafted, Shelves, obey}
 use Rattle.session.specs.declared.state.Mode.TheVariants as M
 use Rattle.session.specs.declared.state.Held.{Held}
-use Rattle.session.specs.declared.state.Turn.{Turn}
-use Rattle.session.specs.declared.change.Change.{Change}
 use Rattle.session.specs.contracts.state.Mode as Mode
 use Rattle.session.proofs.Held.{Tagged, seen, does_done, does_refused, does_refuse}
 use Rattle.session.proofs.Used.{padded_front, name_short, kept_used, fills_inside}
@@ -49,14 +48,12 @@ use Rattle.filing.proofs.Plotted.{plan_clear, plan_joins}
 use Rattle.filing.proofs.Clearing.{at_stocked, at_count, at_bytes}
 
 -- a line for a spoiled form is dropped
-pub keeps_spoiled : (l : FormLine) (session : Session) (r : Turn) → Tagged (2 ∷ []) session → r ≡ record { answer = A.Accepted 0; held = session.held }
-    → Minds session (keep l) r.answer (session_of r.held session.name session.text session.answers session.values)
+pub keeps_spoiled : (l : FormLine) (session : Session) → Tagged (2 ∷ []) session → Minds session (keep l) (Ok 0) session
 unfolding obey after_command P.in_spoiled
-keeps_spoiled l session r h e =
-    subst (λ (t : Turn). Minds session (keep l) t.answer (session_of t.held session.name session.text session.answers session.values)) (sym e)
-    (record { minds = λ shelf. record { heeds = λ b. record { obeys = λ a. go shelf b a (seen 2 session a.forms a.number a.state a.here h) } } })
+keeps_spoiled l session h =
+    record { minds = λ shelf. record { heeds = λ b. record { obeys = λ a. go shelf b a (seen 2 session a.forms a.number a.state a.here h) } } }
   where
-    go : (shelf : Shelf) (b : List ℕ) (a : At session shelf) → a.state ≡ P.spoiled → Does (obey (length b) a.forms a.state (keep l)) (after_command a.number a.forms a.state (keep l)) b b (A.Accepted 0) session shelf
+    go : (shelf : Shelf) (b : List ℕ) (a : At session shelf) → a.state ≡ P.spoiled → Does (obey (length b) a.forms a.state (keep l)) (after_command a.number a.forms a.state (keep l)) b b (Ok 0) session shelf
     go shelf b a q = rw q (does_done session shelf a.forms a.number P.spoiled b (a.here ∙ ap (packed_session a.forms a.number) q) a.there)
 
 -- the form that a session collects
@@ -106,60 +103,49 @@ text_front session shelf a = sym (length-take-le _ _ (omega (arith, fills_inside
 pub name_front : (session : Session) (shelf : Shelf) → At session shelf → session.held.len ≡ length (take session.held.len session.name)
 name_front session shelf a = sym (length-take-le _ _ (omega (arith, fills_inside 16 _ _ (at_used session shelf a).name)))
 
--- lines are counted from 1
-broken_counted : (k : ℕ) (above : List Define) (ls : List FormLine) → line_number (first_broken k above ls) ≡ 0 → first_broken k above ls ≡ none
-unfolding first_broken line_number
-broken_counted k above [] e =
-    by_test (λ o. line_number o ≡ 0 → o ≡ none) (ltb k 2) (some (suc k)) none (λ y z. absurd (omega arith)) (λ n z. refl) e
-broken_counted k above (l ∷ ls) e =
-    go (all (rules k above l)) refl (broken_counted (suc k) (above ++ asked (l ∷ [])) ls)
-  where
-    go : (t : Bool) → all (rules k above l) ≡ t
-        → (line_number (first_broken (suc k) (above ++ asked (l ∷ [])) ls) ≡ 0 → first_broken (suc k) (above ++ asked (l ∷ [])) ls ≡ none)
-        → first_broken k above (l ∷ ls) ≡ none
-    go true q f =
-        let same : first_broken k above (l ∷ ls) ≡ first_broken (suc k) (above ++ asked (l ∷ [])) ls = rw (q, first_broken) in
-        same ∙ f (sym (ap line_number same) ∙ e)
-    go false q f =
-        let this : first_broken k above (l ∷ ls) ≡ some (suc k) = rw (q, first_broken) in
-        let z : suc k ≡ 0 = sym (ap line_number this) ∙ e in
-        absurd (omega arith)
-
--- a number above 0 is that of a line
-numbered : (o : Option ℕ) (line : ℕ) → line ≡ line_number o → 0 < line → o ≡ some line
+-- a line that is told is the first that breaks a rule
+told : (o : Option ℕ) (line : ℕ) → Std.Some line ≡ line_number o → o ≡ some line
 unfolding line_number
-numbered none line e h = absurd (omega arith)
-numbered (some n) line e h = ap some (sym e)
+told none line e = cc
+told (some n) line e = cc
+
+-- and where none is told no line does
+untold : (o : Option ℕ) → Std.None ≡ line_number o → o ≡ none
+unfolding line_number
+untold none e = refl
+untold (some n) e = cc
+
+-- what is no line is none
+pub no_line : (r : Std.Option ℕ) → ((line : ℕ) → r ≡ Std.Some line → ⊥) → r ≡ Std.None
+no_line Std.None h = refl
+no_line (Std.Some line) h = absurd (h line refl)
 
 -- what the check of a session's text says
-abbrev pub Tells : Session → ℕ → Type 0
-Tells session line = (ls : List FormLine) → take session.held.drafted session.text ≡ text_of ls → all_in width ls ≡ true → line ≡ line_number (unsound_at ls)
+abbrev pub Tells : Session → Std.Option ℕ → Type 0
+Tells session r = (ls : List FormLine) → take session.held.drafted session.text ≡ text_of ls → all_in width ls ≡ true → r ≡ line_number (unsound_at ls)
 
 -- whether a store has room for it
 abbrev pub Rooms : Session → Shelf → Bool → Type 0
 Rooms session shelf t = t ≡ (ltb shelf.store.count 8 && leb session.held.drafted (4096 - shelf.store.used))
 
 -- a form that is not sound is 9
-pub shelves_unsound : (session : Session) (shelf : Shelf) (line : ℕ) → Drafted session shelf → Tells session line → 0 < line → Shelves session shelf (A.Refused (W.Unsound line)) shelf
+pub shelves_unsound : (session : Session) (shelf : Shelf) (r : Std.Option ℕ) (line : ℕ) → Drafted session shelf → Tells session r → r ≡ Std.Some line → Shelves session shelf (Err (W.Unsound line)) shelf
 unfolding obey packed_session P.in_collecting P.on_finish P.checked refusal_of after_command after_filing
-shelves_unsound session shelf line s t h = record { shelves = λ next e. record { files = λ b. record { obeys = λ a. go next e b a (in_draft session shelf a s.collects) } } }
+shelves_unsound session shelf r line s t h = record { shelves = λ next e. record { files = λ b. record { obeys = λ a. go next e b a (in_draft session shelf a s.collects) } } }
   where
     go : (next : Session) → next ≡ drafting M.Idle [] [] → (b : List ℕ) (a : At session shelf) → InDraft session a.forms a.state
-        → Does (obey (length b) a.forms a.state (file finish)) (after_command a.number a.forms a.state (file finish)) b b (A.Refused (W.Unsound line)) next shelf
+        → Does (obey (length b) a.forms a.state (file finish)) (after_command a.number a.forms a.state (file finish)) b b (Err (W.Unsound line)) next shelf
     go next e b a d =
-        let at : unsound_at d.lines ≡ some line = numbered _ line (t d.lines (draft_text session _ _ d) d.draft.inside) h in
+        let at : unsound_at d.lines ≡ some line = told _ line (sym h ∙ t d.lines (draft_text session _ _ d) d.draft.inside) in
         rw (d.is, at) (does_refused (W.Unsound line) next shelf a.forms a.number P.idle b e a.there)
 
 -- a form with no such line is sound
-sound : (session : Session) (fs : List Form) (st : P.Session) (line : ℕ) (d : InDraft session fs st) → Tells session line → line ≤ 0 → unsound_at d.lines ≡ none
-unfolding unsound_at
-sound session fs st line d t h =
-    let e = t d.lines (draft_text session fs st d) d.draft.inside in
-    broken_counted 0 [] d.lines (omega arith)
+sound : (session : Session) (fs : List Form) (st : P.Session) (r : Std.Option ℕ) (d : InDraft session fs st) → Tells session r → r ≡ Std.None → unsound_at d.lines ≡ none
+sound session fs st r d t h = untold _ (sym h ∙ t d.lines (draft_text session fs st d) d.draft.inside)
 
 -- and may be stored
-storable : (session : Session) (fs : List Form) (st : P.Session) (line : ℕ) (d : InDraft session fs st) → Tells session line → line ≤ 0 → Storable width d.lines
-storable session fs st line d t h = record { inside = d.draft.inside; limits = d.draft.limits; sound = sound session fs st line d t h }
+storable : (session : Session) (fs : List Form) (st : P.Session) (r : Std.Option ℕ) (d : InDraft session fs st) → Tells session r → r ≡ Std.None → Storable width d.lines
+storable session fs st r d t h = record { inside = d.draft.inside; limits = d.draft.limits; sound = sound session fs st r d t h }
 
 -- the store's room is the paper's
 room_told : (session : Session) (shelf : Shelf) (t : Bool) (a : At session shelf) (d : InDraft session a.forms a.state) → Rooms session shelf t → t ≡ has_room a.forms d.lines
@@ -170,16 +156,16 @@ room_told session shelf t a d h =
     h ∙ rw (count, bytes, draft_size session a.forms a.state d)
 
 -- a form for which there is no room is 11
-pub shelves_full : (session : Session) (shelf : Shelf) (line : ℕ) (t : Bool) → Drafted session shelf → Tells session line → line ≤ 0 → Rooms session shelf t → not t ≡ true
-    → Shelves session shelf (A.Refused W.NoRoom) shelf
+pub shelves_full : (session : Session) (shelf : Shelf) (r : Std.Option ℕ) (t : Bool) → Drafted session shelf → Tells session r → r ≡ Std.None → Rooms session shelf t → not t ≡ true
+    → Shelves session shelf (Err W.NoRoom) shelf
 unfolding obey packed_session P.in_collecting P.on_finish P.checked refusal_of after_command after_filing
-shelves_full session shelf line t s l h m n = record { shelves = λ next e. record { files = λ b. record { obeys = λ a. go next e b a (in_draft session shelf a s.collects) } } }
+shelves_full session shelf r t s l h m n = record { shelves = λ next e. record { files = λ b. record { obeys = λ a. go next e b a (in_draft session shelf a s.collects) } } }
   where
     go : (next : Session) → next ≡ drafting M.Idle [] [] → (b : List ℕ) (a : At session shelf) → InDraft session a.forms a.state
-        → Does (obey (length b) a.forms a.state (file finish)) (after_command a.number a.forms a.state (file finish)) b b (A.Refused W.NoRoom) next shelf
+        → Does (obey (length b) a.forms a.state (file finish)) (after_command a.number a.forms a.state (file finish)) b b (Err W.NoRoom) next shelf
     go next e b a d =
         let full : has_room a.forms d.lines ≡ false = sym (room_told session shelf t a d m) ∙ not-true t n in
-        rw (d.is, sound session _ _ line d l h, if_false (has_room a.forms d.lines) _ _ full) (does_refused W.NoRoom next shelf a.forms a.number P.idle b e a.there)
+        rw (d.is, sound session _ _ r d l h, if_false (has_room a.forms d.lines) _ _ full) (does_refused W.NoRoom next shelf a.forms a.number P.idle b e a.there)
 
 -- where there is room there are less than eight forms
 pub room_few : (session : Session) (shelf : Shelf) (t : Bool) → Rooms session shelf t → not t ≡ false → shelf.store.count < 8
@@ -215,16 +201,16 @@ wide_plan : (at : ℕ) → wide at ≡ 232
 wide_plan at = omega arith
 
 -- and a plan can be made there
-pub draft_plannable : (session : Session) (shelf : Shelf) (line : ℕ) (t : Bool) → Drafted session shelf → Tells session line → line ≤ 0 → Rooms session shelf t → not t ≡ false
+pub draft_plannable : (session : Session) (shelf : Shelf) (r : Std.Option ℕ) (t : Bool) → Drafted session shelf → Tells session r → r ≡ Std.None → Rooms session shelf t → not t ≡ false
     → Plannable (take session.held.drafted session.text) (take (wide (shelf.store.count * 232)) (drop (shelf.store.count * 232) shelf.plans))
-draft_plannable session shelf line t s l h m y =
+draft_plannable session shelf r t s l h m y =
     let a = s.at in
     let d = in_draft session shelf a s.collects in
     let count = at_count session shelf a in
     record {
       lines = d.lines;
       is = draft_text session a.forms a.state d;
-      storable = storable session a.forms a.state line d l h;
+      storable = storable session a.forms a.state r d l h;
       clear = plan_clear shelf.plans a.forms _ _ (plans_are shelf a.forms a.there) a.sane.forms.each (omega (arith, room_few session shelf t m y)) (ap (λ n. n * 232) count) (wide_plan (shelf.store.count * 232));
     }
 
@@ -239,15 +225,15 @@ abbrev pasted : List ℕ → ℕ → List ℕ → List ℕ
 pasted plans at plan = take at plans ++ (plan ++ drop (wide at) (drop at plans))
 
 -- the shelf with one form more
-shelf_stored : (session : Session) (shelf : Shelf) (line : ℕ) (plan : List ℕ) (more : Store) (a : At session shelf) (d : InDraft session a.forms a.state) → Tells session line → line ≤ 0
+shelf_stored : (session : Session) (shelf : Shelf) (r : Std.Option ℕ) (plan : List ℕ) (more : Store) (a : At session shelf) (d : InDraft session a.forms a.state) → Tells session r → r ≡ Std.None
     → shelf.store.count < 8 → Plans (take session.held.drafted session.text) plan
     → Joins shelf.store (take session.held.len session.name) (take session.held.drafted session.text) more
     → record { store = more; plans = pasted shelf.plans (shelf.store.count * 232) plan } ≡ packed_shelf (stored a.forms d.name d.lines)
 unfolding packed_shelf stored
-shelf_stored session shelf line plan more a d l h few p j =
+shelf_stored session shelf r plan more a d l h few p j =
     let text = draft_text session a.forms a.state d in
     let name = draft_name session a.forms a.state d in
-    let s = storable session a.forms a.state line d l h in
+    let s = storable session a.forms a.state r d l h in
     let count = at_count session shelf a in
     let store : more ≡ packed (entries_of (stored a.forms d.name d.lines)) =
     j.joins (entries_of a.forms) (ap (λ x. x.store) a.there) ∙ rw (text, name, entries_stored) in
@@ -257,56 +243,46 @@ shelf_stored session shelf line plan more a d l h few p j =
     λ i. record { store = store i; plans = plans i }
 
 -- a sound form for which there is room is stored
-pub shelves_stored : (session : Session) (shelf : Shelf) (line : ℕ) (t : Bool) (plan : List ℕ) (more : Store) → Drafted session shelf → Tells session line → line ≤ 0 → Rooms session shelf t → not t ≡ false
+pub shelves_stored : (session : Session) (shelf : Shelf) (r : Std.Option ℕ) (t : Bool) (plan : List ℕ) (more : Store) → Drafted session shelf → Tells session r → r ≡ Std.None → Rooms session shelf t → not t ≡ false
     → Plans (take session.held.drafted session.text) plan
     → Joins shelf.store (take session.held.len session.name) (take session.held.drafted session.text) more
-    → Shelves session shelf (A.Accepted 0) (record { store = more; plans = pasted shelf.plans (shelf.store.count * 232) plan })
+    → Shelves session shelf (Ok 0) (record { store = more; plans = pasted shelf.plans (shelf.store.count * 232) plan })
 unfolding obey packed_session P.in_collecting P.on_finish P.checked after_command after_filing
-shelves_stored session shelf line t plan more s l h m y p j = record { shelves = λ next e. record { files = λ b. record { obeys = λ a. go next e b a (in_draft session shelf a s.collects) } } }
+shelves_stored session shelf r t plan more s l h m y p j = record { shelves = λ next e. record { files = λ b. record { obeys = λ a. go next e b a (in_draft session shelf a s.collects) } } }
   where
     new : Shelf
     new = record { store = more; plans = pasted shelf.plans (shelf.store.count * 232) plan }
 
     go : (next : Session) → next ≡ drafting M.Idle [] [] → (b : List ℕ) (a : At session shelf) → InDraft session a.forms a.state
-        → Does (obey (length b) a.forms a.state (file finish)) (after_command a.number a.forms a.state (file finish)) b b (A.Accepted 0) next new
+        → Does (obey (length b) a.forms a.state (file finish)) (after_command a.number a.forms a.state (file finish)) b b (Ok 0) next new
     go next e b a d =
         let room : has_room a.forms d.lines ≡ true = sym (room_told session shelf t a d m) ∙ not-false t y in
-        let holds : new ≡ packed_shelf (stored a.forms d.name d.lines) = shelf_stored session shelf line plan more a d l h (room_few session shelf t m y) p j in
-        rw (d.is, sound session _ _ line d l h, if_true (has_room a.forms d.lines) _ _ room) (does_done next new (stored a.forms d.name d.lines) a.number P.idle b e holds)
+        let holds : new ≡ packed_shelf (stored a.forms d.name d.lines) = shelf_stored session shelf r plan more a d l h (room_few session shelf t m y) p j in
+        rw (d.is, sound session _ _ r d l h, if_true (has_room a.forms d.lines) _ _ room) (does_done next new (stored a.forms d.name d.lines) a.number P.idle b e holds)
 
 -- and the session is Idle
-pub files_shelved : (session : Session) (shelf : Shelf) (answer : Answer) (next : Session) (more : Shelf) → Shelves session shelf answer more → next ≡ drafting M.Idle [] [] → Files session shelf (file finish) answer next more
+pub files_shelved : (session : Session) (shelf : Shelf) (answer : Result ℕ Refusal) (next : Session) (more : Shelf) → Shelves session shelf answer more → next ≡ drafting M.Idle [] [] → Files session shelf (file finish) answer next more
 files_shelved session shelf answer next more h e = h.shelves next e
 
--- a turn beside stored forms that stay
-pub files_beside : (session : Session) (filed : Filed) (all names texts lens plans : List ℕ) (c : C.Command) (turn : Turn) (name text answers values : List ℕ) (r : Change)
-    → Minds session c turn.answer (session_of turn.held name text answers values) → r ≡ record { answer = turn.answer; held = turn.held; filed = filed }
-    → Files session (shelf_of filed all names texts lens plans) c r.answer (session_of r.held name text answers values) (shelf_of r.filed all names texts lens plans)
-files_beside session filed all names texts lens plans c turn name text answers values r m e =
-    subst (λ (x : Change). Files session (shelf_of filed all names texts lens plans) c x.answer (session_of x.held name text answers values) (shelf_of x.filed all names texts lens plans)) (sym e)
-    (record { files = λ b. (m.minds (shelf_of filed all names texts lens plans)).heeds b })
+-- the stored forms stay
+pub files_beside : (session : Session) (shelf : Shelf) (c : C.Command) (answer : Result ℕ Refusal) (next : Session) → Minds session c answer next → Files session shelf c answer next shelf
+files_beside session shelf c answer next m = record { files = λ b. (m.minds shelf).heeds b }
 
--- the same numbers in Idle
-abbrev idle : Held → Held
-idle h = record { mode = M.Idle; form = h.form; start = h.start; size = h.size; len = h.len; drafted = h.drafted; given = h.given }
+-- the same session in Idle
+abbrev idle : Session → Session
+idle s = session_of (record { mode = M.Idle; form = s.held.form; start = s.held.start; size = s.held.size; len = s.held.len; drafted = s.held.drafted; given = s.held.given }) s.name s.text s.answers s.values
 
 -- `FE` of a spoiled form is 8
-pub finishes_spoiled : (session : Session) (moved : Held) (turn : Turn) → Tagged (2 ∷ []) session → moved ≡ idle session.held → turn ≡ record { answer = A.Refused W.IsSpoiled; held = moved }
-    → Minds session (file finish) turn.answer (session_of turn.held session.name session.text session.answers session.values)
+pub finishes_spoiled : (session : Session) → Tagged (2 ∷ []) session → Minds session (file finish) (Err W.IsSpoiled) (idle session)
 unfolding obey packed_session drafting drafts P.in_spoiled P.on_finish refusal_of after_command after_filing
-finishes_spoiled session moved turn h p q =
-    subst (λ (t : Turn). Minds session (file finish) t.answer (session_of t.held session.name session.text session.answers session.values))
-    (sym (q ∙ ap (λ (m : Held). record { answer = A.Refused W.IsSpoiled; held = m }) p))
-    (record { minds = λ shelf. record { heeds = λ b. record { obeys = λ a. go shelf b a (seen 2 session a.forms a.number a.state a.here h) } } })
+finishes_spoiled session h =
+    record { minds = λ shelf. record { heeds = λ b. record { obeys = λ a. go shelf b a (seen 2 session a.forms a.number a.state a.here h) } } }
   where
-    emptied : Session → Session
-    emptied s = session_of (idle s.held) s.name s.text s.answers s.values
-
     go : (shelf : Shelf) (b : List ℕ) (a : At session shelf) → a.state ≡ P.spoiled
-        → Does (obey (length b) a.forms a.state (file finish)) (after_command a.number a.forms a.state (file finish)) b b (A.Refused W.IsSpoiled) (emptied session) shelf
+        → Does (obey (length b) a.forms a.state (file finish)) (after_command a.number a.forms a.state (file finish)) b b (Err W.IsSpoiled) (idle session) shelf
     go shelf b a s =
-        let is : emptied session ≡ packed_session a.forms a.number P.idle = ap emptied (a.here ∙ ap (packed_session a.forms a.number) s) in
-        rw s (does_refused W.IsSpoiled (emptied session) shelf a.forms a.number P.idle b is a.there)
+        let is : idle session ≡ packed_session a.forms a.number P.idle = ap idle (a.here ∙ ap (packed_session a.forms a.number) s) in
+        rw s (does_refused W.IsSpoiled (idle session) shelf a.forms a.number P.idle b is a.there)
 
 -- the limits of a form in numbers
 record Limits (ls : List FormLine) : Type 0 where
@@ -326,15 +302,20 @@ text_whole session k = let f = (kept_used session k).text in ap length f.is ∙ 
 pub text_short : (session : Session) → Kept session → session.held.drafted ≤ 1024
 text_short session k = let f = (kept_used session k).text in omega (arith, f.counts, f.room)
 
+-- the command of a line for a form
+keeps_command : (s : List ℕ) (c : Command) (k : Keeps s c) → command_of s c ≡ keep k.line
+unfolding view_of
+keeps_command s c k = let e : command (command_of s c) ≡ command (keep k.line) = k.is in cc
+
 -- a record that was read can be written
-pub reads_written : (s : List ℕ) (c : Command) → IsRead s c → Keeps s c → (record_held s c ≡ true) × (readable (view_of s c) ≡ true)
-unfolding readable
-reads_written s c h k = (stand_held s c h.stand, rw k.is (read_in_range width s (keep k.line) (sym h.view ∙ k.is)))
+pub reads_written : (s : List ℕ) (c : Command) → IsRead s (Ok c) → Keeps s c → (command_held s c ≡ true) × (in_range width (command_of s c) ≡ true)
+unfolding record_held
+reads_written s c h k = (stand_held s (Ok c) h.stand, rw (keeps_command s c k) (read_in_range width s (keep k.line) (sym h.view ∙ k.is)))
 
 -- what is written of it is the line's text
-keeps_text : (s : List ℕ) (c : Command) (k : Keeps s c) → reading_text (view_of s c) ≡ line_text k.line
-unfolding reading_text normal
-keeps_text s c k = rw k.is
+keeps_text : (s : List ℕ) (c : Command) (k : Keeps s c) → normal (command_of s c) ≡ line_text k.line
+unfolding normal
+keeps_text s c k = rw (keeps_command s c k)
 
 -- the text with one line more
 text_more : (ls : List FormLine) (l : FormLine) → text_of (ls ++ (l ∷ [])) ≡ text_of ls ++ (line_text l ++ (10 ∷ []))
@@ -354,7 +335,7 @@ counted session fs st lines d m =
     cc
 
 -- a step that refuses a line beyond the limits obeys it
-minds_overfull : (session : Session) (lines : ℕ) (l : FormLine) (answer : Answer) (next : Session) → session.held.mode ≡ M.Collecting lines
+minds_overfull : (session : Session) (lines : ℕ) (l : FormLine) (answer : Result ℕ Refusal) (next : Session) → session.held.mode ≡ M.Collecting lines
     → ((fs : List Form) (st : P.Session) (d : InDraft session fs st) → Limits (d.lines ++ (l ∷ [])) → ⊥)
     → Refuses W.Overfull session answer next → Minds session (keep l) answer next
 unfolding obey P.in_collecting P.collected refusal_of after_command
@@ -369,15 +350,15 @@ minds_overfull session lines l answer next m over r =
         (does_refuse W.Overfull session answer next r shelf a.forms a.number (P.collecting d.name d.lines) b (a.here ∙ ap (packed_session a.forms a.number) d.is) a.there)
 
 -- a form with this line would have too many bytes
-pub keeps_long : (session : Session) (lines : ℕ) (s : List ℕ) (c : Command) (old out : List ℕ) (n : ℕ) (answer : Answer) (next : Session) (k : Keeps s c) → session.held.mode ≡ M.Collecting lines
-    → Writes old 0 (reading_text (view_of s c)) out n → 1023 < session.held.drafted + n → Refuses W.Overfull session answer next → Minds session (keep k.line) answer next
+pub keeps_long : (session : Session) (lines : ℕ) (s : List ℕ) (c : Command) (old out : List ℕ) (n : ℕ) (answer : Result ℕ Refusal) (next : Session) (k : Keeps s c) → session.held.mode ≡ M.Collecting lines
+    → Writes old 0 (normal (command_of s c)) out n → 1023 < session.held.drafted + n → Refuses W.Overfull session answer next → Minds session (keep k.line) answer next
 keeps_long session lines s c old out n answer next k m w h r =
     minds_overfull session lines k.line answer next m
     (λ fs st d x. omega (arith, draft_size session fs st d, w.ends, ap length (keeps_text s c k), size_more d.lines k.line, x.bytes))
     r
 
 -- or too many lines
-pub keeps_many : (session : Session) (lines : ℕ) (l : FormLine) (answer : Answer) (next : Session) → session.held.mode ≡ M.Collecting lines → 39 < lines
+pub keeps_many : (session : Session) (lines : ℕ) (l : FormLine) (answer : Result ℕ Refusal) (next : Session) → session.held.mode ≡ M.Collecting lines → 39 < lines
     → Refuses W.Overfull session answer next → Minds session (keep l) answer next
 keeps_many session lines l answer next m h r =
     minds_overfull session lines l answer next m (λ fs st d x. omega (arith, counted session fs st lines d m, length-append d.lines (l ∷ []), x.lines)) r
@@ -409,25 +390,23 @@ more_held session fs n st lines l mid new end size d m p q h =
     }
 
 -- a line within the limits is kept
-pub keeps_more : (session : Session) (lines : ℕ) (s : List ℕ) (c : Command) (old out : List ℕ) (n : ℕ) (mid : List ℕ) (end : ℕ) (new : List ℕ) (size : ℕ) (r : Turn) (k : Keeps s c)
+pub keeps_more : (session : Session) (lines : ℕ) (s : List ℕ) (c : Command) (old out : List ℕ) (n : ℕ) (mid : List ℕ) (end : ℕ) (new : List ℕ) (size : ℕ) (k : Keeps s c)
     → session.held.mode ≡ M.Collecting lines
-    → Writes old 0 (reading_text (view_of s c)) out n → session.held.drafted + n ≤ 1023 → lines ≤ 39
+    → Writes old 0 (normal (command_of s c)) out n → session.held.drafted + n ≤ 1023 → lines ≤ 39
     → Writes session.text session.held.drafted (take n out) mid end → Writes mid end (10 ∷ []) new size
-    → r ≡ record { answer = A.Accepted 0; held = longer session.held lines size }
-    → Minds session (keep k.line) r.answer (session_of r.held session.name new session.answers session.values)
+    → Minds session (keep k.line) (Ok 0) (session_of (longer session.held lines size) session.name new session.answers session.values)
 unfolding obey P.in_collecting P.collected within_limits after_command
-keeps_more session lines s c old out n mid end new size r k m w h few p q e =
-    subst (λ (t : Turn). Minds session (keep k.line) t.answer (session_of t.held session.name new session.answers session.values)) (sym e)
-    (record { minds = λ shelf. record { heeds = λ b. record { obeys = λ a. go shelf b a (in_draft session shelf a (record { lines = lines; is = m })) } } })
+keeps_more session lines s c old out n mid end new size k m w h few p q =
+    record { minds = λ shelf. record { heeds = λ b. record { obeys = λ a. go shelf b a (in_draft session shelf a (record { lines = lines; is = m })) } } }
   where
     next : Session
     next = session_of (longer session.held lines size) session.name new session.answers session.values
 
     line : take n out ≡ line_text k.line
-    line = writes_take old 0 (reading_text (view_of s c)) out n w ∙ keeps_text s c k
+    line = writes_take old 0 (normal (command_of s c)) out n w ∙ keeps_text s c k
 
     go : (shelf : Shelf) (b : List ℕ) (a : At session shelf) → InDraft session a.forms a.state
-        → Does (obey (length b) a.forms a.state (keep k.line)) (after_command a.number a.forms a.state (keep k.line)) b b (A.Accepted 0) next shelf
+        → Does (obey (length b) a.forms a.state (keep k.line)) (after_command a.number a.forms a.state (keep k.line)) b b (Ok 0) next shelf
     go shelf b a d =
         let ls = d.lines ++ (k.line ∷ []) in
         let bytes : length (text_of ls) ≤ 1024 = omega (arith, draft_size session a.forms a.state d, w.ends, ap length (keeps_text s c k), size_more d.lines k.line) in

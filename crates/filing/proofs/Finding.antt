@@ -13,7 +13,8 @@ use Rattle.paper.proofs.Test.{either}
 use Rattle.paper.proofs.Text.{same_eq}
 use Rattle.command.specs.View.{width}
 use Rattle.store.specs.Packed.{entry, texts_of, find_from, lines_of, listing_of}
-use Rattle.store.specs.declared.Found.TheVariants as F
+use Rattle.std.specs.Prelude.{Option, Some, None}
+use Rattle.store.specs.declared.Found.{Found}
 use Rattle.session.specs.Memory.{place_of, entries_of, Lies, number_of}
 
 -- the names of the entries are those of the forms
@@ -42,12 +43,12 @@ entries_place [] (g ∷ gs) = refl
 entries_place (f ∷ fs) gs = rw (length-append, entries_place fs gs)
 
 -- where nothing is found there is no form of the name
-pub entries_absent : (name : List ℕ) (fs : List Form) (i start : ℕ) → find_from i start name (entries_of fs) ≡ F.Absent → find name fs ≡ none
+pub entries_absent : (name : List ℕ) (fs : List Form) (i start : ℕ) → find_from i start name (entries_of fs) ≡ None → find name fs ≡ none
 unfolding entries_of entry find_from find when◌then◌else◌
 entries_absent name [] i start e = refl
 entries_absent name (f ∷ fs) i start e =
     either (same name f.name)
-    (λ y. let never : F.At i start (length (text_of f.lines)) ≡ F.Absent = rw y at e in cc)
+    (λ y. let never : ◌≡◌ {A = Option Found} (Some (record { index = i; start = start; len = length (text_of f.lines) })) None = rw y at e in cc)
     (λ n. rw n (entries_absent name fs _ _ (rw n at e)))
 
 -- the form of a name among others, of which the first has a number and a place
@@ -65,16 +66,17 @@ pub record Among (name : List ℕ) (fs : List Form) (i from index start size : �
   pub rest : before ++ behind ≡ without name fs
 
 -- what is found is that form
-pub entries_found : (name : List ℕ) (fs : List Form) (i from index start size : ℕ) → AllStored width fs
-    → find_from i from name (entries_of fs) ≡ F.At index start size → Among name fs i from index start size
+pub entries_found : (name : List ℕ) (fs : List Form) (i from : ℕ) (found : Found) → AllStored width fs
+    → find_from i from name (entries_of fs) ≡ Some found → Among name fs i from found.index found.start found.len
 unfolding entries_of entry find_from find without place_of number_of when◌then◌else◌
-entries_found name [] i from index start size h e = let z : ◌≡◌ {A = ℕ} 0 1 = cc in absurd (omega arith)
-entries_found name (f ∷ fs) i from index start size h e =
+entries_found name [] i from found h e = absurd cc
+entries_found name (f ∷ fs) i from found h e =
     either (same name f.name)
     (λ y.
-    let it : F.At i from (length (text_of f.lines)) ≡ F.At index start size = rw y at e in
-    let number : index ≡ i = cc in
-    let place : start ≡ from = cc in
+    let it : Some (record { index = i; start = from; len = length (text_of f.lines) }) ≡ Some found = rw y at e in
+    let is : found ≡ record { index = i; start = from; len = length (text_of f.lines) } = cc in
+    let number : found.index ≡ i = ap (λ x. x.index) is in
+    let place : found.start ≡ from = ap (λ x. x.start) is in
     record {
       before = [];
       here = f;
@@ -82,14 +84,14 @@ entries_found name (f ∷ fs) i from index start size h e =
       forms = refl;
       number = omega arith;
       place = omega arith;
-      bytes = cc;
+      bytes = ap (λ x. x.len) is;
       first = rw y;
       found = rw y;
       lies = refl;
       rest = rw y (sym (without_absent name fs (rw (same_eq name f.name y) h.1)));
     })
     (λ n.
-    let w = entries_found name fs (suc i) (from + length (text_of f.lines)) index start size h.3 (rw n at e) in
+    let w = entries_found name fs (suc i) (from + length (text_of f.lines)) found h.3 (rw n at e) in
     record {
       before = f ∷ w.before;
       here = w.here;

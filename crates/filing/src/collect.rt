@@ -2,7 +2,7 @@
 ghost use Rattle.std.specs.Prelude.{◌≡◌};
 ghost use Rattle.paper.specs.Command as C;
 ghost use Rattle.line.specs.Given.{IsRead};
-ghost use Rattle.session.specs.Memory.{session_of, shelf_of};
+ghost use Rattle.session.specs.Memory.{lent, SameLoan, shelf_of};
 ghost use Rattle.session.specs.Outcome.{At, Kept, Keeps, Minds, Drafted, Shelves, Files};
 ghost use Rattle.session.specs.declared.state.Mode.TheVariants as M;
 
@@ -10,8 +10,7 @@ use command::{Answer, Command, Refusal};
 use form::check::unsound_at;
 use form::plan::{PLAN, make_plan};
 use normal::write::put_normal;
-use session::change::{Change, beside};
-use session::state::{Held, Mode, Turn, done, fresh, kept, moved, refuse};
+use session::state::{Mode, Session};
 use store::{Filed, has_room, join};
 use text::write::{put, put_all};
 
@@ -21,156 +20,97 @@ const TEXT: usize = 1023;
 const LINES: usize = 39;
 
 // A line that is kept in normal form, unless the form would exceed its limits.
-fn collect(
-    held: Held,
-    name: &mut [u8],
-    text: &mut [u8],
-    answers: &mut [u8],
-    values: &mut [usize],
-    s: &[u8],
-    c: Command,
-    lines: usize,
-) -> Turn
-    requires kept { Kept (session_of held name.old text.old answers.old values.old) }
-    requires mode_value { held.mode ≡ M.Collecting lines }
-    requires read { IsRead s.now c }
+fn collect(session: &mut Session<'_>, s: &[u8], c: Command, lines: usize) -> Answer
+    requires kept { Kept (lent session.old) }
+    requires mode_value { session.old.held.mode ≡ M.Collecting lines }
+    requires read { IsRead s.now (Ok c) }
     requires keeps { Keeps s.now c }
-    ensures { (k : Keeps s.now c) → Minds (session_of held name.old text.old answers.old values.old) (C.keep k.line) result.answer (session_of result.held name.new text.new answers.new values.new) }
+    ensures same { SameLoan session.old session.new }
+    ensures value { (k : Keeps s.now c) → Minds (lent session.old) (C.keep k.line) result (lent session.new) }
 {
     let mut out = [0u8; 256];
     let n = put_normal(&mut out, s, c);
-    let at = held.drafted;
+    let at = session.held.drafted;
     if TEXT < at + n {
-        return refuse(Refusal::Overfull, held, name, text, answers, values);
+        return session.refuse(Refusal::Overfull);
     }
     if LINES < lines {
-        return refuse(Refusal::Overfull, held, name, text, answers, values);
+        return session.refuse(Refusal::Overfull);
     }
-    let end = put_all(text, at, &out[..n]);
-    let drafted = put(text, end, b'\n');
-    done(Held {
-        mode: Mode::Collecting { lines: lines + 1 },
-        form: held.form,
-        start: held.start,
-        size: held.size,
-        len: held.len,
-        drafted,
-        given: held.given,
-    })
+    let end = put_all(session.text, at, &out[..n]);
+    session.held.drafted = put(session.text, end, b'\n');
+    session.held.mode = Mode::Collecting { lines: lines + 1 };
+    Ok(0)
 }
 
 // A line for a form: kept, or dropped where the form is spoiled.
-pub fn keep(
-    held: Held,
-    name: &mut [u8],
-    text: &mut [u8],
-    answers: &mut [u8],
-    values: &mut [usize],
-    s: &[u8],
-    c: Command,
-) -> Turn
-    requires kept { Kept (session_of held name.old text.old answers.old values.old) }
-    requires read { IsRead s.now c }
+pub fn keep(session: &mut Session<'_>, s: &[u8], c: Command) -> Answer
+    requires kept { Kept (lent session.old) }
+    requires read { IsRead s.now (Ok c) }
     requires keeps { Keeps s.now c }
-    ensures { (k : Keeps s.now c) → Minds (session_of held name.old text.old answers.old values.old) (C.keep k.line) result.answer (session_of result.held name.new text.new answers.new values.new) }
+    ensures same { SameLoan session.old session.new }
+    ensures value { (k : Keeps s.now c) → Minds (lent session.old) (C.keep k.line) result (lent session.new) }
 {
-    let mode = held.mode;
-    match mode {
-        Mode::Collecting { lines } => collect(held, name, text, answers, values, s, c, lines),
-        Mode::Spoiled => done(held),
-        _ => refuse(Refusal::NotNow, held, name, text, answers, values),
+    match session.held.mode {
+        Mode::Collecting { lines } => collect(session, s, c, lines),
+        Mode::Spoiled => Ok(0),
+        _ => session.refuse(Refusal::NotNow),
     }
-}
-
-// What `FE` of a draft gives: the answer, and the store's numbers.
-#[derive(Clone, Copy)]
-pub struct Shelved {
-    pub answer: Answer,
-    pub filed: Filed,
 }
 
 // `FE` of a draft: checked, and stored with its plan.
 fn shelve(
-    held: Held,
-    name: &[u8],
-    text: &[u8],
-    answers: &[u8],
-    values: &[usize],
-    filed: Filed,
+    session: &Session<'_>,
+    filed: &mut Filed,
     all: &mut [u8],
     names: &mut [u8],
     texts: &mut [usize],
     lens: &mut [usize],
     plans: &mut [usize],
-) -> Shelved
-    requires { Drafted (session_of held name.now text.now answers.now values.now) (shelf_of filed all.old names.old texts.old lens.old plans.old) }
-    ensures { Shelves (session_of held name.now text.now answers.now values.now) (shelf_of filed all.old names.old texts.old lens.old plans.old) result.answer (shelf_of result.filed all.new names.new texts.new lens.new plans.new) }
+) -> Answer
+    requires { Drafted (lent session.now) (shelf_of filed.old all.old names.old texts.old lens.old plans.old) }
+    ensures { Shelves (lent session.now) (shelf_of filed.old all.old names.old texts.old lens.old plans.old) result (shelf_of filed.new all.new names.new texts.new lens.new plans.new) }
 {
-    let size = held.drafted;
-    let line = unsound_at(&text[..size]);
-    if 0 < line {
-        return Shelved {
-            answer: Answer::Refused {
-                why: Refusal::Unsound { line },
-            },
-            filed,
-        };
+    let name = &session.name[..session.held.len];
+    let size = session.held.drafted;
+    let text = &session.text[..size];
+    if let Some(line) = unsound_at(text) {
+        return Err(Refusal::Unsound { line });
     }
-    if !has_room(filed, size) {
-        return Shelved {
-            answer: Answer::Refused {
-                why: Refusal::NoRoom,
-            },
-            filed,
-        };
+    if !has_room(*filed, size) {
+        return Err(Refusal::NoRoom);
     }
     let at = filed.count * PLAN;
     let end = at + PLAN;
-    make_plan(&text[..size], &mut plans[at..end]);
-    let len = held.len;
-    let more = join(filed, all, names, texts, lens, &name[..len], &text[..size]);
-    Shelved {
-        answer: Answer::Accepted { len: 0 },
-        filed: more,
-    }
+    make_plan(text, &mut plans[at..end]);
+    *filed = join(*filed, all, names, texts, lens, name, text);
+    Ok(0)
 }
 
 // `FE` ends a form.
 pub fn finish(
-    held: Held,
-    name: &mut [u8],
-    text: &mut [u8],
-    answers: &mut [u8],
-    values: &mut [usize],
-    filed: Filed,
+    session: &mut Session<'_>,
+    filed: &mut Filed,
     all: &mut [u8],
     names: &mut [u8],
     texts: &mut [usize],
     lens: &mut [usize],
     plans: &mut [usize],
-) -> Change
-    requires { At (session_of held name.old text.old answers.old values.old) (shelf_of filed all.old names.old texts.old lens.old plans.old) }
-    ensures { Files (session_of held name.old text.old answers.old values.old) (shelf_of filed all.old names.old texts.old lens.old plans.old) (C.file C.finish) result.answer (session_of result.held name.new text.new answers.new values.new) (shelf_of result.filed all.new names.new texts.new lens.new plans.new) }
+) -> Answer
+    requires { At (lent session.old) (shelf_of filed.old all.old names.old texts.old lens.old plans.old) }
+    ensures same { SameLoan session.old session.new }
+    ensures value { Files (lent session.old) (shelf_of filed.old all.old names.old texts.old lens.old plans.old) (C.file C.finish) result (lent session.new) (shelf_of filed.new all.new names.new texts.new lens.new plans.new) }
 {
-    let mode = held.mode;
-    match mode {
+    match session.held.mode {
         Mode::Collecting { lines: _ } => {
-            let shelved = shelve(
-                held, name, text, answers, values, filed, all, names, texts, lens, plans,
-            );
-            let answer = shelved.answer;
-            let more = shelved.filed;
-            let next = fresh(Mode::Idle, held, name, text, answers, values);
-            Change {
-                answer,
-                held: next,
-                filed: more,
-            }
+            let answer = shelve(session, filed, all, names, texts, lens, plans);
+            session.fresh(Mode::Idle);
+            answer
         }
-        Mode::Spoiled => beside(kept(Refusal::IsSpoiled, moved(held, Mode::Idle)), filed),
-        _ => beside(
-            refuse(Refusal::NotNow, held, name, text, answers, values),
-            filed,
-        ),
+        Mode::Spoiled => {
+            session.held.mode = Mode::Idle;
+            Err(Refusal::IsSpoiled)
+        }
+        _ => session.refuse(Refusal::NotNow),
     }
 }

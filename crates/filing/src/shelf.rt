@@ -6,10 +6,10 @@ ghost use Rattle.filing.specs.Leaving.{Leaving, Left};
 
 use form::plan::PLAN;
 use session::name::Name;
-use store::gap::{close_numbers, wipe_numbers};
+use store::gap::close;
 use store::{Filed, Found, clear, find, remove};
 
-// The form of a number leaves: the plans behind its own move up.
+// A form that was found leaves: the plans behind its own move up.
 fn take_out(
     filed: Filed,
     all: &mut [u8],
@@ -17,15 +17,14 @@ fn take_out(
     texts: &mut [usize],
     lens: &mut [usize],
     plans: &mut [usize],
-    index: usize,
-    start: usize,
-    size: usize,
+    found: Found,
 ) -> Filed
-    requires { Leaving (shelf_of filed all.old names.old texts.old lens.old plans.old) index start size }
-    ensures { Left (shelf_of filed all.old names.old texts.old lens.old plans.old) index start size (shelf_of result all.new names.new texts.new lens.new plans.new) }
+    requires { Leaving (shelf_of filed all.old names.old texts.old lens.old plans.old) found.index found.start found.len }
+    ensures { Left (shelf_of filed all.old names.old texts.old lens.old plans.old) found.index found.start found.len (shelf_of result all.new names.new texts.new lens.new plans.new) }
 {
-    let less = remove(filed, all, names, texts, lens, index, start, size);
-    close_numbers(plans, index * PLAN, PLAN, (less.count - index) * PLAN);
+    let index = found.index;
+    let less = remove(filed, all, names, texts, lens, found);
+    close(plans, index * PLAN, PLAN, (less.count - index) * PLAN, 0);
     less
 }
 
@@ -41,7 +40,7 @@ fn empty_out(
     requires { Stocks (shelf_of filed all.old names.old texts.old lens.old plans.old) }
     ensures { shelf_of result all.new names.new texts.new lens.new plans.new ≡ packed_shelf [] }
 {
-    wipe_numbers(plans, 0, filed.count * PLAN);
+    plans[..filed.count * PLAN].fill(0);
     clear(filed, all, names, texts, lens)
 }
 
@@ -65,11 +64,7 @@ pub fn delete_named(
         return empty_out(filed, all, names, texts, lens, plans);
     }
     match find(filed, all, names, texts, lens, &bytes[..len]) {
-        Found::At {
-            index,
-            start,
-            len: size,
-        } => take_out(filed, all, names, texts, lens, plans, index, start, size),
-        Found::Absent => filed,
+        Some(found) => take_out(filed, all, names, texts, lens, plans, found),
+        None => filed,
     }
 }

@@ -21,7 +21,7 @@ use Rattle.command.specs.View.{width}
 use Rattle.text.specs.Place.{from}
 use Rattle.text.proofs.Written.{writes_none, writes_then, writes_length}
 use Rattle.call.specs.Call.{Memory}
-use Rattle.wait.specs.Waiting.{Waiting, Comes}
+use Rattle.wait.specs.Waiting.{Waiting, Comes, Gathered, line_by}
 use Rattle.tablets.specs.Calls.{left_of, SetsLeft}
 use Rattle.tablets.proofs.Leading.{reached_counts}
 use Rattle.tablets.proofs.Left.{left_few}
@@ -29,7 +29,7 @@ use Rattle.reports.specs.Said.{Lone, Sole, HearsAt, TakesAt}
 use Rattle.flow.specs.Feed.{feed, line}
 use Rattle.flow.specs.declared.fill.Reach.{Reach}
 use Rattle.flow.specs.Emit.{Standing, silence, joined, heard, heard_says, taken, taken_says, waiting}
-use Rattle.flow.specs.Fill.{Desk, Place, place_of, At, Stands, Inside, Room, Ending, Gathered, line_by, Leads, Puts, Goes, weight, Steps, Lacks, out_full, err_full, Fills}
+use Rattle.flow.specs.Fill.{Desk, Place, place_of, At, Stands, Inside, Room, Ending, Leads, Puts, Goes, weight, Steps, Lacks, out_full, err_full, Fills}
 use Rattle.flow.proofs.Cutting.{Line, part_ends, kept_none, rest_inside, rest_part, feed_inside, feed_line}
 use Rattle.flow.proofs.Gathering.{clean_more, heard_as}
 use Rattle.flow.proofs.Emitting.{joined_none, joined_assoc, emit_takes, emit_hears, emit_waits, after_takes_it, after_hears, after_waits}
@@ -245,14 +245,14 @@ module _ {input : List ℕ} {p : Place} {out₀ err₀ : List ℕ} (t : Stands p
 
     module _ (end : ℕ) (before : end < length input) (rest : List ℕ) (new : List ℕ) (n : ℕ)
         (lies : Line input p.next end rest)
-        (g : Gathered p.desk.waiting p.desk.run.len rest new n)
+        (g : Gathered 257 p.desk.waiting p.desk.run.len rest (eqb p.desk.run.len 0) new n)
         (next : Memory) (out : List ℕ) (out_end : ℕ) (err : List ℕ) (err_end : ℕ)
-        (hears : HearsAt p.desk.memory (line_by p.desk.run.len rest (take n new)) (p.desk.run.lines + 1) out₀ p.out err₀ p.err next out out_end err err_end)
+        (hears : HearsAt p.desk.memory (line_by (eqb p.desk.run.len 0) rest (take n new)) (p.desk.run.lines + 1) out₀ p.out err₀ p.err next out out_end err err_end)
         (left : ℕ) (tells : SetsLeft next.held 0 left) where
       puts_hears : (s : Standing) → At p.desk s → Puts s input p out₀ err₀ (hearing_on end new next out_end err_end left) out err
       unfolding heard heard_says P.hear
       puts_hears s a =
-          let said : List ℕ = line_by p.desk.run.len rest (take n new) in
+          let said : List ℕ = line_by (eqb p.desk.run.len 0) rest (take n new) in
           let w : List ℕ = s.wait ++ kept rest in
           let same : P.hear width enough s.bench said ≡ P.hear width enough s.bench w = heard_as s.bench s.wait p.desk.waiting p.desk.run.len rest new n a.waits a.clean g in
           let counts : p.desk.run.lines + 1 ≡ s.lines + 1 = ap (λ k. k + 1) a.counts in
@@ -291,8 +291,8 @@ module _ {input : List ℕ} {p : Place} {out₀ err₀ : List ℕ} (t : Stands p
 
     -- where it lies
     pub steps_heard : (end : ℕ) → Ending input p.next end → end < length input → (new : List ℕ) (n : ℕ)
-        → Gathered p.desk.waiting p.desk.run.len (take (end - p.next) (drop p.next input)) new n
-        → (said : List ℕ) → said ≡ line_by p.desk.run.len (take (end - p.next) (drop p.next input)) (take n new)
+        → Gathered 257 p.desk.waiting p.desk.run.len (take (end - p.next) (drop p.next input)) (eqb p.desk.run.len 0) new n
+        → (said : List ℕ) → said ≡ line_by (eqb p.desk.run.len 0) (take (end - p.next) (drop p.next input)) (take n new)
         → (next : Memory) (out : List ℕ) (out_end : ℕ) (err : List ℕ) (err_end : ℕ)
         → HearsAt p.desk.memory said (p.desk.run.lines + 1) out₀ p.out err₀ p.err next out out_end err err_end
         → (left : ℕ) → SetsLeft next.held 0 left → Steps input p out₀ err₀ (hearing_on end new next out_end err_end left) false out err
@@ -332,13 +332,13 @@ module _ {input : List ℕ} {p : Place} {out₀ err₀ : List ℕ} {q : Place} {
         }
 
     -- which used the input up
-    pub fills_used : used ≡ true → Fills input p out₀ err₀ r true new newer
+    pub fills_used : used ≡ true → Fills input p out₀ err₀ r used new newer
     fills_used e =
         record {
           goes = goes_then t.goes s.goes;
-          ends = λ u. s.ends e;
-          full = λ u. absurd (false≢true (sym u));
-          moves = λ u. absurd (false≢true (sym u));
+          ends = s.ends;
+          full = λ u. absurd (false≢true (sym u ∙ e));
+          moves = λ u. absurd (false≢true (sym u ∙ e));
         }
 
   -- a buffer is full

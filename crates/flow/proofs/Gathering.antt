@@ -9,7 +9,7 @@ use lib.Seq.{drop-drop}
 use lib.Dec.{eqb}
 use mir.Syntax.{w64}
 use mir.Val.{Fits}
-use borrow.Author.Tests.{eqb-true, eqb-false, eq-eqb, ne_eqb}
+use borrow.Author.Tests.{eqb-true, eq-eqb}
 use Rattle.paper.specs.Byte.{between, every}
 use Rattle.paper.specs.Command.{is_shown}
 use Rattle.paper.specs.Line.{lf, kept}
@@ -24,8 +24,8 @@ use Rattle.text.specs.Place.{from}
 use Rattle.line.specs.Shown.{clear_part}
 use Rattle.line.proofs.Control.{clear_take, clear_shown}
 use Rattle.form.specs.Walk.{first_line}
-use Rattle.wait.specs.Waiting.{Waits, Waiting, Comes}
-use Rattle.flow.specs.Fill.{Clear, Gathered, line_by}
+use Rattle.wait.specs.Waiting.{Waits, Gathered, line_by}
+use Rattle.flow.specs.Fill.{Clear}
 
 -- LF is not shown
 shown_inside : (b : ℕ) → is_shown b ≡ true → eqb b lf ≡ false
@@ -55,40 +55,22 @@ none_waits [] old h = refl
 none_waits (b ∷ w) old h = absurd (omega (arith, h.counts, length-take 257 (b ∷ w)))
 
 -- the line where it lies
-pub heard_as : (b : P.Bench) (w old : List ℕ) (len : ℕ) (rest new : List ℕ) (n : ℕ) → Waits w old len → kept w ≡ w → Gathered old len rest new n
-    → P.hear width enough b (line_by len rest (take n new)) ≡ P.hear width enough b (w ++ kept rest)
+pub heard_as : (b : P.Bench) (w old : List ℕ) (len : ℕ) (rest new : List ℕ) (n : ℕ) → Waits w old len → kept w ≡ w → Gathered 257 old len rest (eqb len 0) new n
+    → P.hear width enough b (line_by (eqb len 0) rest (take n new)) ≡ P.hear width enough b (w ++ kept rest)
 unfolding line_by
 heard_as b w old len rest new n h e g =
     either (eqb len 0)
     (λ y.
     let none : Waits w old 0 = rw (eqb-true len 0 y) at h in
-    ap (P.hear width enough b) (if_true (eqb len 0) rest (take n new) y) ∙ hear_kept b rest ∙ ap (λ x. P.hear width enough b (x ++ kept rest)) (sym (none_waits w old none)))
+    ap (P.hear width enough b) (ap (λ b. line_by b rest (take n new)) y) ∙ hear_kept b rest ∙ ap (λ x. P.hear width enough b (x ++ kept rest)) (sym (none_waits w old none)))
     (λ m.
-    ap (P.hear width enough b) (if_false (eqb len 0) rest (take n new) m ∙ ((g.more (eqb-false len 0 m)).comes w h).front)
+    ap (P.hear width enough b) (ap (λ b. line_by b rest (take n new)) m ∙ ((g.more m).comes w h).front)
     ∙ hear_front b (w ++ kept rest) (clean_more w rest e))
 
--- `gather`: nothing waits
-pub gathers_none : (old : List ℕ) (len : ℕ) (rest : List ℕ) → len ≡ 0 → Gathered old len rest old 0
-gathers_none old len rest e = record { inside = omega arith; size = refl; none = λ z. (refl, refl); more = λ n. absurd (n e) }
-
--- or more of a line comes
-pub gathers_some : (old : List ℕ) (len : ℕ) (rest new : List ℕ) (n : ℕ) → (len ≡ 0 → ⊥) → Waiting old len → Comes old len rest new n → Gathered old len rest new n
-gathers_some old len rest new n m w c =
-    let h = c.comes w.line w.waits in
-    record { inside = omega (arith, h.counts, h.room, length-take 257 (w.line ++ kept rest)); size = h.room ∙ sym w.waits.room; none = λ z. absurd (m z); more = λ k. c }
-
--- `line_of`: where nothing waits it is the input's
-pub line_rest : (len : ℕ) (rest gathered : List ℕ) → len ≡ 0 → rest ≡ line_by len rest gathered
-unfolding line_by
-line_rest len rest gathered e = sym (if_true _ _ _ (eq-eqb len 0 e))
-
-pub line_gathered : (len : ℕ) (rest gathered : List ℕ) → (len ≡ 0 → ⊥) → gathered ≡ line_by len rest gathered
-unfolding line_by
-line_gathered len rest gathered e = sym (if_false _ _ _ (ne_eqb len 0 e))
-
 -- a line that is known to be clear is
-pub line_shown : (len : ℕ) (rest gathered said : List ℕ) (shown : Bool) → said ≡ line_by len rest gathered → (shown ≡ true → (len ≡ 0) × (every is_shown rest ≡ true)) → shown ≡ true → every is_shown said ≡ true
-line_shown len rest gathered said shown e c y = let z = c y in rw (e ∙ sym (line_rest len rest gathered z.0)) z.1
+pub line_shown : (len : ℕ) (rest gathered said : List ℕ) (shown : Bool) → said ≡ line_by (eqb len 0) rest gathered → (shown ≡ true → (len ≡ 0) × (every is_shown rest ≡ true)) → shown ≡ true → every is_shown said ≡ true
+unfolding line_by
+line_shown len rest gathered said shown e c y = let z = c y in rw (e, eq-eqb len 0 z.0) z.1
 
 -- the first line is its clear part, and what is left of it behind that
 first_clear : (s : List ℕ) → length (first_line s) ≡ length (clear_part s) + length (first_line (drop (length (clear_part s)) s))
@@ -110,7 +92,7 @@ clear_ends text at stop end e f =
     let behind : drop stop text ≡ drop (length (clear_part (drop at text))) (drop at text) = rw e (sym (drop-drop (length (clear_part (drop at text))) at text)) in
     omega (arith, e, f, first_clear (drop at text), ap (λ x. length (first_line x)) behind)
 
--- and the line is clear where that is its end
+-- and the line is clear where that is its end and nothing of it waits
 pub clear_cut : (text : List ℕ) (at len stop end : ℕ) → stop ≡ at + length (clear_part (from text at)) → len ≡ 0 → Clear text at len end (eqb stop end)
 unfolding from
 clear_cut text at len stop end e z y =

@@ -1,6 +1,6 @@
 -- What `step` and `fill` promise: which bytes stand behind those that wait, where the run stands then, and why it stopped.
-use Rattle.std.specs.Prelude.{ℕ, ◌+◌, ◌-◌, ◌*◌, ◌^◌, ◌≤◌, ◌<◌, ◌≡◌, Bool, true, false, List, ◌++◌, length, take, drop, eqb}
-use Rattle.paper.specs.Byte.{when◌then◌else◌, every}
+use Rattle.std.specs.Prelude.{ℕ, ◌+◌, ◌-◌, ◌*◌, ◌^◌, ◌≤◌, ◌<◌, ◌≡◌, Bool, true, false, List, ◌++◌, length, take, drop}
+use Rattle.paper.specs.Byte.{every}
 use Rattle.paper.specs.Command.{is_shown}
 use Rattle.paper.specs.Line.{kept}
 use Rattle.paper.specs.State.{Led}
@@ -10,7 +10,7 @@ use Rattle.text.specs.Place.{from}
 use Rattle.text.specs.Write.{Writes}
 use Rattle.form.specs.Walk.{first_line}
 use Rattle.call.specs.Call.{Memory}
-use Rattle.wait.specs.Waiting.{Waits, Comes}
+use Rattle.wait.specs.Waiting.{Waits}
 use Rattle.reports.specs.Said.{Lone}
 use Rattle.flow.specs.Emit.{Standing, joined, after, emit}
 use Rattle.flow.specs.declared.fill.Run.{Run}
@@ -77,17 +77,6 @@ Ending input next end = end ≡ next + length (first_line (from input next))
 -- a line that is known to be clear: nothing of it waits, and all its bytes up to its end are shown
 abbrev pub Clear : List ℕ → ℕ → ℕ → ℕ → Bool → Type 0
 Clear input next len end shown = shown ≡ true → (len ≡ 0) × (every is_shown (take (end - next) (drop next input)) ≡ true)
-
--- `gather`: a line of which nothing waits stays in the input, and memory as it is; else its rest waits too
-pub record Gathered (old : List ℕ) (len : ℕ) (rest new : List ℕ) (n : ℕ) : Type 0 where
-  pub inside : n ≤ length new
-  pub size : length new ≡ length old
-  pub none : len ≡ 0 → (new ≡ old) × (n ≡ 0)
-  pub more : (len ≡ 0 → ⊥) → Comes old len rest new n
-
--- the bytes of a line: in the input, or gathered
-unfoldable pub line_by : ℕ → List ℕ → List ℕ → List ℕ
-line_by len rest gathered = when eqb len 0 then rest else gathered
 
 -- from a standing, with input to come, to a run with input to come: what was said. Whatever follows, all that was to be said
 -- is this and what is still to be said, and the run comes to stand where it was to stand

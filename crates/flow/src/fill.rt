@@ -1,17 +1,16 @@
 // Input to output, with no call of C: sets are taken and lines are heard until the input is used up or a buffer is full.
 ghost use Rattle.std.specs.Prelude.{◌+◌, ◌-◌, ◌^◌, ◌<◌, ◌≤◌, ◌≡◌, length};
 ghost use Rattle.call.specs.Call.{memory_of};
-ghost use Rattle.wait.specs.Waiting.{Waiting};
-ghost use Rattle.flow.specs.Fill.{desk_of, place_of, Stands, Inside, Room, Ending, Clear, Gathered, line_by, Steps, Fills};
+ghost use Rattle.flow.specs.Fill.{desk_of, place_of, Stands, Inside, Room, Ending, Clear, Steps, Fills};
 
-use crate::cut::cut_at;
+use crate::cut::{Cut, cut_at};
 use reports::calls::{PROGRAM, REFUSAL_ROOM, REPLY_ROOM, hear_line, take_set};
 use tablets::counts::sets_left;
-use wait::put_kept;
+use wait::{SEEN, gather, line_of, put_kept};
 
 // Where a run stands beside its bench: the bytes that wait for the end of their line, the lines that have come, and the sets that are
 // still to be taken.
-#[derive(Clone, Copy)]
+#[derive(Clone, Copy, Debug, PartialEq, Eq)]
 pub struct Run {
     pub len: usize,
     pub lines: usize,
@@ -19,7 +18,7 @@ pub struct Run {
 }
 
 // How far a run came: the place in the input, and where the bytes that wait for each stream end.
-#[derive(Clone, Copy)]
+#[derive(Clone, Copy, Debug, PartialEq, Eq)]
 pub struct Reach {
     pub run: Run,
     pub next: usize,
@@ -28,7 +27,8 @@ pub struct Reach {
 }
 
 // The same, and whether the input is used up.
-#[derive(Clone, Copy)]
+// Kept: Steps and Fills tell of both outcomes where the run stands, so that an enum of two variants, each with a Reach, is no plainer.
+#[derive(Clone, Copy, Debug, PartialEq, Eq)]
 pub struct Filled {
     pub reach: Reach,
     pub used: bool,
@@ -58,20 +58,17 @@ fn step_take(
     requires left_nonzero { 0 < reach.run.left }
     ensures { Steps input.now (place_of reach (memory_of all.now names.now texts.now lens.now plans.now filed.now name.old text.old answers.old values.old held.old) waiting.now) out.old err.now (place_of result.reach (memory_of all.now names.now texts.now lens.now plans.now filed.now name.new text.new answers.new values.new held.new) waiting.now) result.used out.new err.now }
 {
-    let run = reach.run;
     let end = take_set(
         all, names, texts, lens, plans, filed, name, text, answers, values, held, out, reach.out,
     );
     let run = Run {
-        len: run.len,
-        lines: run.lines,
-        left: run.left - 1,
+        left: reach.run.left - 1,
+        ..reach.run
     };
     let reach = Reach {
         run,
-        next: reach.next,
         out: end,
-        err: reach.err,
+        ..reach
     };
     Filled { reach, used: false }
 }
@@ -101,42 +98,14 @@ fn step_wait(
     requires ending { Ending input.now reach.next (length input.now) }
     ensures { Steps input.now (place_of reach (memory_of all.now names.now texts.now lens.now plans.now filed.now name.now text.now answers.now values.now held.now) waiting.old) out.now err.now (place_of result.reach (memory_of all.now names.now texts.now lens.now plans.now filed.now name.now text.now answers.now values.now held.now) waiting.new) result.used out.now err.now }
 {
-    let run = reach.run;
-    let next = reach.next;
-    let len = put_kept(waiting, run.len, &input[next..]);
-    let run = Run {
-        len,
-        lines: run.lines,
-        left: run.left,
-    };
+    let len = put_kept::<SEEN>(waiting, reach.run.len, &input[reach.next..]);
+    let run = Run { len, ..reach.run };
     let reach = Reach {
         run,
         next: input.len(),
-        out: reach.out,
-        err: reach.err,
+        ..reach
     };
     Filled { reach, used: true }
-}
-
-// The rest of a line behind the bytes that wait of it; none wait of a line that lies in the input whole.
-fn gather(waiting: &mut [u8], len: usize, rest: &[u8]) -> usize
-    requires { Waiting waiting.old len }
-    ensures { Gathered waiting.old len rest.now waiting.new result }
-{
-    if len == 0 {
-        return 0;
-    }
-    put_kept(waiting, len, rest)
-}
-
-// A line where it lies: in the input, or gathered.
-fn line_of<'a>(rest: &'a [u8], gathered: &'a [u8], len: usize) -> &'a [u8]
-    ensures { result.now ≡ line_by len rest.now gathered.now }
-{
-    if len == 0 {
-        return rest;
-    }
-    gathered
 }
 
 // A line that ends at a place is heard.
@@ -168,10 +137,10 @@ fn step_hear(
     ensures { Steps input.now (place_of reach (memory_of all.old names.old texts.old lens.old plans.old filed.old name.old text.old answers.old values.old held.old) waiting.old) out.old err.old (place_of result.reach (memory_of all.new names.new texts.new lens.new plans.new filed.new name.new text.new answers.new values.new held.new) waiting.new) result.used out.new err.new }
 {
     let run = reach.run;
-    let next = reach.next;
-    let len = run.len;
-    let n = gather(waiting, len, &input[next..end]);
-    let s = line_of(&input[next..end], &waiting[..n], len);
+    let rest = &input[reach.next..end];
+    let whole = run.len == 0;
+    let n = gather::<SEEN>(waiting, run.len, rest, whole);
+    let s = line_of(rest, &waiting[..n], whole);
     let lines = run.lines + 1;
     let called = hear_line(
         all, names, texts, lens, plans, filed, name, text, answers, values, held, s, lines, out,
@@ -222,8 +191,7 @@ fn step(
             waiting, input, out, err,
         );
     }
-    let cut = cut_at(input, reach.next, run.len);
-    let end = cut.end;
+    let Cut { end, shown } = cut_at(input, reach.next, run.len);
     if end == input.len() {
         return step_wait(
             reach, all, names, texts, lens, plans, filed, name, text, answers, values, held,
@@ -232,7 +200,7 @@ fn step(
     }
     step_hear(
         reach, all, names, texts, lens, plans, filed, name, text, answers, values, held, waiting,
-        input, end, out, err, cut.shown,
+        input, end, out, err, shown,
     )
 }
 
@@ -261,19 +229,16 @@ pub fn fill(
 {
     let mut reach = reach;
     loop {
-        if out.len() - reach.out < REPLY_ROOM {
-            return Filled { reach, used: false };
-        }
-        if err.len() - reach.err < REFUSAL_ROOM {
+        if out.len() - reach.out < REPLY_ROOM || err.len() - reach.err < REFUSAL_ROOM {
             return Filled { reach, used: false };
         }
         let filled = step(
             reach, all, names, texts, lens, plans, filed, name, text, answers, values, held,
             waiting, input, out, err,
         );
-        reach = filled.reach;
         if filled.used {
-            return Filled { reach, used: true };
+            return filled;
         }
+        reach = filled.reach;
     }
 }

@@ -4,6 +4,7 @@ use mathlib.Core.Path.{◌≡◌, refl, sym, ◌∙◌, ap}
 use mathlib.Core.Bool.{Bool, true, false}
 use mathlib.Core.List.{List, [], ◌∷◌, ◌++◌}
 use mathlib.Core.Option.{none, some}
+use Rattle.std.specs.Prelude.{Option, Some, None}
 use native.Mathlib.Omega.{arith}
 use native.Mathlib.Numerals.{add-one}
 use lib.ListN.{length}
@@ -16,9 +17,9 @@ use Rattle.paper.specs.State.{all_in}
 use Rattle.paper.proofs.Law.{if_true, if_false}
 use Rattle.text.specs.Place.{from}
 use Rattle.command.specs.View.{width}
-use Rattle.form.specs.Walk.{first_line, part_of}
+use Rattle.form.specs.Walk.{first_line}
 use Rattle.form.specs.Sound.{Agrees, Judges, line_number}
-use Rattle.form.proofs.Lines.{end_inside, Turn, line_turn, lines_end}
+use Rattle.form.proofs.Lines.{Turn, line_turn, lines_end}
 use Rattle.form.proofs.Judged.{Checks}
 
 -- a line that keeps the rules leaves the rest to the lines below it
@@ -32,7 +33,7 @@ unfolding first_broken
 broken_here k above l ls e = rw (e, first_broken, add-one)
 
 -- the lines that are left of a form, with the definitions above them
-pub record Below (text : List ℕ) (ls : List P.FormLine) (lens : List ℕ) (at k : ℕ) : Type 0 where
+pub record Below (text : List ℕ) (ls : List P.FormLine) (lens : List (Option ℕ)) (at k : ℕ) : Type 0 where
   pub left : List P.FormLine
   pub above : List P.Define
   pub here : from text at ≡ text_of left
@@ -41,13 +42,13 @@ pub record Below (text : List ℕ) (ls : List P.FormLine) (lens : List ℕ) (at 
   pub same : unsound_at ls ≡ first_broken k above left
 
 -- so many lines before a place keep the rules
-pub record Checking (text lens : List ℕ) (at k : ℕ) : Type 0 where
+pub record Checking (text : List ℕ) (lens : List (Option ℕ)) (at k : ℕ) : Type 0 where
   pub few : k ≤ at
   pub whole : length lens ≡ 26
   pub below : (ls : List P.FormLine) → text ≡ text_of ls → all_in width ls ≡ true → Below text ls lens at k
 
 -- the check begins
-pub check_begins : (text lens : List ℕ) → Agrees lens [] → Checking text lens 0 0
+pub check_begins : (text : List ℕ) (lens : List (Option ℕ)) → Agrees lens [] → Checking text lens 0 0
 unfolding from unsound_at
 check_begins text lens a = record {
   few = omega arith;
@@ -55,47 +56,47 @@ check_begins text lens a = record {
   below = λ ls e i. record { left = ls; above = []; here = e; inside = i; agrees = a; same = refl };
 }
 
-module _ (text lens : List ℕ) (at k end : ℕ) (r : Bool) (new : List ℕ) (h : Checking text lens at k) (p : at < length text)
-    (e : end ≡ at + length (first_line (from text at))) (checks : Checks k (part_of text at end) lens r new) where
+module _ (text : List ℕ) (lens : List (Option ℕ)) (at k : ℕ) (bytes : List ℕ) (r : Bool) (new : List (Option ℕ)) (h : Checking text lens at k) (p : at < length text)
+    (e : bytes ≡ first_line (from text at)) (checks : Checks k bytes lens r new) where
   -- the line is judged below the definitions above it
-  judged : (above : List P.Define) → Agrees lens above → {rest : List P.FormLine} (t : Turn text at rest end) → Judges k above t.line r new
+  judged : (above : List P.Define) → Agrees lens above → {rest : List P.FormLine} (t : Turn text at rest bytes) → Judges k above t.line r new
   judged above a t = checks t.line above t.stands t.range a
 
   -- a line keeps the rules
-  pub check_turns : length new ≡ length lens → r ≡ true → Checking text new (end + 1) (k + 1)
-  check_turns same y = record { few = omega (arith, h.few, (end_inside text at end p e).begins); whole = same ∙ h.whole; below = λ ls q i. goes ls (h.below ls q i) }
+  pub check_turns : length new ≡ length lens → r ≡ true → (next : ℕ) → next ≡ at + length bytes + 1 → Checking text new next (k + 1)
+  check_turns same y next n = record { few = omega (arith, h.few); whole = same ∙ h.whole; below = λ ls q i. goes ls (h.below ls q i) }
     where
-      goes : (ls : List P.FormLine) → Below text ls lens at k → Below text ls new (end + 1) (k + 1)
+      goes : (ls : List P.FormLine) → Below text ls lens at k → Below text ls new next (k + 1)
       goes ls b =
-          let t = line_turn text at b.left end b.here b.inside p e in
+          let t = line_turn text at b.left bytes b.here b.inside p e in
           let j = judged b.above b.agrees t in
           record {
             left = t.more;
             above = b.above ++ asked (t.line ∷ []);
-            here = t.after;
+            here = rw n t.after;
             inside = t.below;
             agrees = j.notes y;
             same = b.same ∙ ap (first_broken k b.above) t.is ∙ broken_below k b.above t.line t.more (sym j.judged ∙ y);
           }
 
   -- a line breaks one
-  pub check_breaks : r ≡ false → (ls : List P.FormLine) → text ≡ text_of ls → all_in width ls ≡ true → k + 1 ≡ line_number (unsound_at ls)
+  pub check_breaks : r ≡ false → (ls : List P.FormLine) → text ≡ text_of ls → all_in width ls ≡ true → Some (k + 1) ≡ line_number (unsound_at ls)
   unfolding line_number
   check_breaks n ls q i =
       let b = h.below ls q i in
-      let t = line_turn text at b.left end b.here b.inside p e in
+      let t = line_turn text at b.left bytes b.here b.inside p e in
       let j = judged b.above b.agrees t in
       sym (ap line_number (b.same ∙ ap (first_broken k b.above) t.is ∙ broken_here k b.above t.line t.more (sym j.judged ∙ n)))
 
 -- no line is left, and one of the first two is missing
-pub check_short : (text lens : List ℕ) (at k : ℕ) → Checking text lens at k → length text ≤ at → k < 2 → (ls : List P.FormLine) → text ≡ text_of ls → all_in width ls ≡ true → k + 1 ≡ line_number (unsound_at ls)
+pub check_short : (text : List ℕ) (lens : List (Option ℕ)) (at k : ℕ) → Checking text lens at k → length text ≤ at → k < 2 → (ls : List P.FormLine) → text ≡ text_of ls → all_in width ls ≡ true → Some (k + 1) ≡ line_number (unsound_at ls)
 unfolding line_number first_broken
 check_short text lens at k h p l ls q i =
     let b = h.below ls q i in
     rw add-one (sym (ap line_number (b.same ∙ ap (first_broken k b.above) (lines_end text at b.left b.here p) ∙ if_true (ltb k 2) (some (suc k)) none (lt-ltb k 2 l))))
 
 -- no line is left, and none is missing
-pub check_ends : (text lens : List ℕ) (at k : ℕ) → Checking text lens at k → length text ≤ at → 2 ≤ k → (ls : List P.FormLine) → text ≡ text_of ls → all_in width ls ≡ true → 0 ≡ line_number (unsound_at ls)
+pub check_ends : (text : List ℕ) (lens : List (Option ℕ)) (at k : ℕ) → Checking text lens at k → length text ≤ at → 2 ≤ k → (ls : List P.FormLine) → text ≡ text_of ls → all_in width ls ≡ true → None ≡ line_number (unsound_at ls)
 unfolding line_number first_broken
 check_ends text lens at k h p l ls q i =
     let b = h.below ls q i in

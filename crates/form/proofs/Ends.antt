@@ -5,6 +5,7 @@ use mathlib.Core.Bool.{Bool, true, false}
 use mathlib.Core.List.{List, [], ◌∷◌, ◌++◌, append-nil}
 use native.Mathlib.Omega.{arith}
 use lib.ListN.{length}
+use Rattle.std.specs.Prelude.{Option, Some, None}
 use Rattle.paper.specs.Command as P
 use Rattle.paper.specs.Command.{draw_ranges, content_ranges, setting_ranges, value_range, all_of}
 use Rattle.paper.specs.Form.{value_of, len_of}
@@ -20,11 +21,10 @@ use Rattle.form.specs.Noting.{Holds, PieceRoom, NoteRoom, DrawnRoom, GapRoom, Pi
 use Rattle.form.specs.declared.asked.Define.{Define}
 use Rattle.form.specs.declared.asked.Define.TheVariants.{Counter, Variable}
 use Rattle.form.specs.declared.ending.Ending.{Ending}
-use Rattle.form.specs.declared.ending.Ending.TheVariants.{Whole, Value}
 use Rattle.form.proofs.Memory.{piece_room, define_room}
 
 -- what the ending of a line is told to be
-abbrev pub Ends : List ℕ → Ending → Type 0
+abbrev pub Ends : List ℕ → Option Ending → Type 0
 Ends s ending = (d : P.Draw) → s ≡ line_text (P.draw d) → all_of (draw_ranges width d) ≡ true → ending ≡ ending_of (shows_of d)
 
 -- the value of a line in range
@@ -92,56 +92,56 @@ pub variable_fits : (plan : List ℕ) (define : Define) (n len : ℕ) → NoteRo
 variable_fits plan define n len r e = let h = variable_small define n len r.told e in omega arith
 
 -- the ending of a line that ends in no value
-pub whole_shows : (s : Shows) → Whole ≡ ending_of s → s ≡ nothing
-unfolding ending_of value_ending
+pub whole_shows : (s : Shows) → None ≡ ending_of s → s ≡ nothing
+unfolding ending_of
 whole_shows nothing q = refl
-whole_shows (value true (P.counter n)) q = let z : ◌≡◌ {A = ℕ} 0 1 = cc in absurd (omega arith)
-whole_shows (value false (P.counter n)) q = let z : ◌≡◌ {A = ℕ} 0 1 = cc in absurd (omega arith)
-whole_shows (value true (P.variable n)) q = let z : ◌≡◌ {A = ℕ} 0 1 = cc in absurd (omega arith)
-whole_shows (value false (P.variable n)) q = let z : ◌≡◌ {A = ℕ} 0 1 = cc in absurd (omega arith)
+whole_shows (value alone v) q = cc
 
 -- the numbers of an ending in a value
-value_known : (v : P.Value) (alone : Bool) (tail n : ℕ) (opens : Bool) → Value tail n opens ≡ value_ending v alone → (opens ≡ alone) × (n ≡ number_of v)
+value_known : (v : P.Value) (alone : Bool) (e : Ending) → e ≡ value_ending v alone → (e.opens ≡ alone) × (e.value ≡ number_of v)
 unfolding value_ending number_of
-value_known (P.counter m) true tail n opens e = (cc, cc)
-value_known (P.counter m) false tail n opens e = (cc, cc)
-value_known (P.variable m) true tail n opens e = (cc, cc)
-value_known (P.variable m) false tail n opens e = (cc, cc)
+value_known (P.counter m) true e q = (ap (λ x. x.opens) q, ap (λ x. x.value) q)
+value_known (P.counter m) false e q = (ap (λ x. x.opens) q, ap (λ x. x.value) q)
+value_known (P.variable m) true e q = (ap (λ x. x.opens) q, ap (λ x. x.value) q)
+value_known (P.variable m) false e q = (ap (λ x. x.opens) q, ap (λ x. x.value) q)
 
 -- and the value that it shows
-pub value_shows : (s : Shows) (tail n : ℕ) (opens : Bool) → Value tail n opens ≡ ending_of s → (v : P.Value) × (s ≡ value opens v) × (n ≡ number_of v)
+pub value_shows : (s : Shows) (e : Ending) → Some e ≡ ending_of s → (v : P.Value) × (s ≡ value e.opens v) × (e.value ≡ number_of v)
 unfolding ending_of
-value_shows nothing tail n opens q = let z : ◌≡◌ {A = ℕ} 0 1 = cc in absurd (omega arith)
-value_shows (value alone v) tail n opens q = let (same, is) = value_known v alone tail n opens q in (v, ap (λ b. value b v) (sym same), is)
+value_shows nothing e q = cc
+value_shows (value alone v) e q =
+    let is : e ≡ value_ending v alone = cc in
+    let (same, number) = value_known v alone e is in
+    (v, ap (λ b. value b v) (sym same), number)
 
 -- a line that ends in no value leaves the piece open
-pub whole_drawn : (old : List ℕ) (ending : Ending) (start end : ℕ) → ending ≡ Whole → DrawnNoted old ending start end old start
+pub whole_drawn : (old : List ℕ) (ending : Option Ending) (start end : ℕ) → ending ≡ None → DrawnNoted old ending start end old start
 unfolding if_value opens_at
 whole_drawn old ending start end e =
     record { noted = λ ds ps s h r q t. rw (whole_shows s (sym e ∙ q), append-nil) h; opens = λ s q. rw (whole_shows s (sym e ∙ q)) refl }
 
-pub tail_inside : (ending : Ending) (tail n : ℕ) (opens : Bool) (plan : List ℕ) (end : ℕ) → ending ≡ Value tail n opens → DrawnRoom plan ending end → tail ≤ end
+pub tail_inside : (ending : Option Ending) (e : Ending) (plan : List ℕ) (end : ℕ) → ending ≡ Some e → DrawnRoom plan ending end → e.tail ≤ end
 unfolding tail_of
-tail_inside ending tail n opens plan end e d = rw e at d.inside
+tail_inside ending e plan end is d = rw is at d.inside
 
-pub number_small : (ending : Ending) (tail n : ℕ) (opens : Bool) (plan : List ℕ) (end : ℕ) → ending ≡ Value tail n opens → DrawnRoom plan ending end → n < 10000
+pub number_small : (ending : Option Ending) (e : Ending) (plan : List ℕ) (end : ℕ) → ending ≡ Some e → DrawnRoom plan ending end → e.value < 10000
 unfolding number_in
-number_small ending tail n opens plan end e d = let s : n < 26 = rw e at d.small in omega arith
+number_small ending e plan end is d = let s : e.value < 26 = rw is at d.small in omega arith
 
 -- a value at the end of a line closes the open piece
-pub value_drawn : (old new : List ℕ) (ending : Ending) (start end tail n b : ℕ) (opens : Bool) → ending ≡ Value tail n opens → ((v : P.Value) → n ≡ number_of v → b ≡ behind_in (value opens v))
-    → PieceNoted old start (end - tail) b new → DrawnNoted old ending start end new end
+pub value_drawn : (old new : List ℕ) (ending : Option Ending) (e : Ending) (start end b : ℕ) → ending ≡ Some e → ((v : P.Value) → e.value ≡ number_of v → b ≡ behind_in (value e.opens v))
+    → PieceNoted old start (end - e.tail) b new → DrawnNoted old ending start end new end
 unfolding if_value opens_at tail_of
-value_drawn old new ending start end tail n b opens e k p = record { noted = λ ds ps s h r q t. notes ds ps s h r (sym e ∙ q) (sym (ap tail_of e) ∙ t); opens = λ s q. same s (sym e ∙ q) }
+value_drawn old new ending e start end b is k p = record { noted = λ ds ps s h r q t. notes ds ps s h r (sym is ∙ q) (sym (ap tail_of is) ∙ t); opens = λ s q. same s (sym is ∙ q) }
   where
-    notes : (ds : List P.Define) (ps : List Piece) (s : Shows) → Holds ds ps old → length ps < 42 → Value tail n opens ≡ ending_of s → tail ≡ length (gives_way s)
+    notes : (ds : List P.Define) (ps : List Piece) (s : Shows) → Holds ds ps old → length ps < 42 → Some e ≡ ending_of s → e.tail ≡ length (gives_way s)
         → Holds ds (ps ++ if_value s (record { start = start; end = end - length (gives_way s); behind = s }) []) new
     notes ds ps s h r q t =
-        let (v, is, number) = value_shows s tail n opens q in
-        rw (← t, is) (p.noted ds ps (value opens v) h r (k v number))
+        let (v, shown, number) = value_shows s e q in
+        rw (← t, shown) (p.noted ds ps (value e.opens v) h r (k v number))
 
-    same : (s : Shows) → Value tail n opens ≡ ending_of s → end ≡ opens_at s start end
-    same s q = let (v, is, number) = value_shows s tail n opens q in rw is refl
+    same : (s : Shows) → Some e ≡ ending_of s → end ≡ opens_at s start end
+    same s q = let (v, shown, number) = value_shows s e q in rw shown refl
 
 -- an open piece and a definition
 pub gap_open : (old : List ℕ) (define : Define) → GapRoom old define → PieceRoom old

@@ -7,6 +7,7 @@ use native.Mathlib.Omega.{arith}
 use lib.ListN.{length, get_or, length-append}
 use lib.Dec.{eqb}
 use borrow.Author.Tests.{leb-true}
+use Rattle.std.specs.Prelude.{Option, Some, None}
 use Rattle.paper.specs.Byte.{bytes}
 use Rattle.paper.specs.Command as P
 use Rattle.paper.specs.Command.{draw_ranges, value_range, all_of}
@@ -17,7 +18,6 @@ use Rattle.command.specs.View.{width}
 use Rattle.form.specs.Plan.{shows_of}
 use Rattle.form.specs.Ending.{value_ending, ending_of}
 use Rattle.form.specs.declared.ending.Ending.{Ending}
-use Rattle.form.specs.declared.ending.Ending.TheVariants.{Whole}
 use Rattle.form.proofs.Naming.{back, back_append, mark, Names, Naming, plain, named, naming}
 
 -- a counter is one of ten, a variable one of sixteen
@@ -51,17 +51,17 @@ variable_bytes line u b n e =
     (ap length is ∙ length-append u _, back_append line u _ 1 is (omega arith), back_append line u _ 2 is (omega arith), back_append line u _ 4 is (omega arith))
 
 -- a value behind a byte that tells whether it stands alone
-record Behind (b : ℕ) (value : P.Value) (r : Ending) : Type 0 where
+record Behind (b : ℕ) (value : P.Value) (r : Option Ending) : Type 0 where
   opens : Bool
   marked : b ≡ mark opens
-  ending : value_ending value opens ≡ r
+  ending : Some (value_ending value opens) ≡ r
 
 -- the byte is a comma where it does
-behind_test : (b : ℕ) (value : P.Value) (r : Ending) → Behind b value r → value_ending value (eqb b 44) ≡ r
+behind_test : (b : ℕ) (value : P.Value) (r : Option Ending) → Behind b value r → Some (value_ending value (eqb b 44)) ≡ r
 unfolding mark
 behind_test b value r k = go k.opens k.marked k.ending
   where
-    go : (opens : Bool) → b ≡ mark opens → value_ending value opens ≡ r → value_ending value (eqb b 44) ≡ r
+    go : (opens : Bool) → b ≡ mark opens → Some (value_ending value opens) ≡ r → Some (value_ending value (eqb b 44)) ≡ r
     go true m h = rw m h
     go false m h = rw m h
 
@@ -78,20 +78,20 @@ module _ (line : List ℕ) (d : P.Draw) (e : line ≡ line_text (P.draw d)) (g :
       (omega (arith, last.0), ap (λ s. get_or s 0 0) is, λ q. omega (arith, last.1))
 
   -- so a line that is not so names none
-  whole : ((4 ≤ length line) × (get_or line 0 0 ≡ 65) × (back line 1 ≡ 34 → ⊥) → ⊥) → Whole ≡ ending_of (shows_of d)
+  whole : ((4 ≤ length line) × (get_or line 0 0 ≡ 65) × (back line 1 ≡ 34 → ⊥) → ⊥) → None ≡ ending_of (shows_of d)
   whole f = go (naming d)
     where
-      go : Naming d → Whole ≡ ending_of (shows_of d)
+      go : Naming d → None ≡ ending_of (shows_of d)
       go (plain p) = sym p.ending
       go (named value opens k) = absurd (f (names_long value opens k))
 
-  pub whole_short : length line < 4 → Whole ≡ ending_of (shows_of d)
+  pub whole_short : length line < 4 → None ≡ ending_of (shows_of d)
   whole_short h = whole λ k. omega (arith, k.0)
 
-  pub whole_other : (get_or line 0 0 ≡ 65 → ⊥) → Whole ≡ ending_of (shows_of d)
+  pub whole_other : (get_or line 0 0 ≡ 65 → ⊥) → None ≡ ending_of (shows_of d)
   whole_other h = whole λ k. h k.1
 
-  pub whole_closed : back line 1 ≡ 34 → Whole ≡ ending_of (shows_of d)
+  pub whole_closed : back line 1 ≡ 34 → None ≡ ending_of (shows_of d)
   whole_closed h = whole λ k. k.2 h
 
   module _ (first : get_or line 0 0 ≡ 65) (unclosed : back line 1 ≡ 34 → ⊥) where
@@ -104,13 +104,13 @@ module _ (line : List ℕ) (d : P.Draw) (e : line ≡ line_text (P.draw d)) (g :
         go (named (P.counter m) opens k) =
             let last = counter_bytes line (65 ∷ k.front) (mark opens) m (counter_few m (k.range g)) (e ∙ k.is) in
             let same : n ≡ m = omega (arith, last.1) in
-            record { opens = opens; marked = last.3; ending = ap (λ x. value_ending (P.counter x) opens) same ∙ sym k.ending }
+            record { opens = opens; marked = last.3; ending = ap (λ x. Some (value_ending (P.counter x) opens)) same ∙ sym k.ending }
         go (named (P.variable m) opens k) =
             let last = variable_bytes line (65 ∷ k.front) (mark opens) m (e ∙ k.is) in
             absurd (omega (arith, last.2, variable_few m (k.range g)))
 
-    pub counter_ends : (n : ℕ) (r : Ending) → back line 2 ≡ 67 → n ≡ back line 1 - 48 → r ≡ value_ending (P.counter n) (eqb (back line 3) 44) → r ≡ ending_of (shows_of d)
-    counter_ends n r c h is = is ∙ behind_test _ (P.counter n) _ (counter_behind n c h)
+    pub counter_ends : (n : ℕ) (r : Ending) → back line 2 ≡ 67 → n ≡ back line 1 - 48 → r ≡ value_ending (P.counter n) (eqb (back line 3) 44) → Some r ≡ ending_of (shows_of d)
+    counter_ends n r c h is = ap Some is ∙ behind_test _ (P.counter n) _ (counter_behind n c h)
 
     -- and else in a variable
     variable_behind : (tens ones : ℕ) → (back line 2 ≡ 67 → ⊥) → tens ≡ back line 2 - 48 → ones ≡ back line 1 - 48 → Behind (back line 4) (P.variable (tens * 10 + ones)) (ending_of (shows_of d))
@@ -122,7 +122,7 @@ module _ (line : List ℕ) (d : P.Draw) (e : line ≡ line_text (P.draw d)) (g :
         go (named (P.variable m) opens k) =
             let last = variable_bytes line (65 ∷ k.front) (mark opens) m (e ∙ k.is) in
             let same : tens * 10 + ones ≡ m = omega (arith, last.1, last.2) in
-            record { opens = opens; marked = last.3; ending = ap (λ x. value_ending (P.variable x) opens) same ∙ sym k.ending }
+            record { opens = opens; marked = last.3; ending = ap (λ x. Some (value_ending (P.variable x) opens)) same ∙ sym k.ending }
 
-    pub variable_ends : (tens ones : ℕ) (r : Ending) → (back line 2 ≡ 67 → ⊥) → tens ≡ back line 2 - 48 → ones ≡ back line 1 - 48 → r ≡ value_ending (P.variable (tens * 10 + ones)) (eqb (back line 4) 44) → r ≡ ending_of (shows_of d)
-    variable_ends tens ones r c t o is = is ∙ behind_test _ (P.variable (tens * 10 + ones)) _ (variable_behind tens ones c t o)
+    pub variable_ends : (tens ones : ℕ) (r : Ending) → (back line 2 ≡ 67 → ⊥) → tens ≡ back line 2 - 48 → ones ≡ back line 1 - 48 → r ≡ value_ending (P.variable (tens * 10 + ones)) (eqb (back line 4) 44) → Some r ≡ ending_of (shows_of d)
+    variable_ends tens ones r c t o is = ap Some is ∙ behind_test _ (P.variable (tens * 10 + ones)) _ (variable_behind tens ones c t o)

@@ -142,21 +142,16 @@ pub define_room : (ds : List P.Define) (ps : List Piece) (plan : List ℕ) → H
 define_room ds ps plan h r =
     record { defines = ds; pieces = ps; holds = h; room = r; whole = holds_whole ds ps plan h; next = omega (arith, holds_defines ds ps plan h) }
 
--- four numbers one after the other
-pub four_put : (old a b c new : List ℕ) (at x y z w : ℕ) → a ≡ set old at x → b ≡ set a (at + 1) y → c ≡ set b (at + 2) z → new ≡ set c (at + 3) w → new ≡ four_at old at x y z w
-unfolding four_at
-four_put old a b c new at x y z w q₀ q₁ q₂ q₃ = rw (q₃, q₂, q₁, q₀)
-
 -- a piece is noted number by number
-pub piece_noted : (old a b c new : List ℕ) (start end behind : ℕ) → a ≡ set old (106 + get_or old 1 0 * 3) start → b ≡ set a (106 + get_or old 1 0 * 3 + 1) end → c ≡ set b (106 + get_or old 1 0 * 3 + 2) behind
-    → new ≡ set c 1 (get_or old 1 0 + 1) → PieceNoted old start end behind new
-piece_noted old a b c new start end behind q₀ q₁ q₂ q₃ = record { noted = λ ds ps s h r e. go ds ps s h r e }
+pub piece_noted : (old new : List ℕ) (start end behind : ℕ)
+    → new ≡ set (set (set (set old (106 + get_or old 1 0 * 3) start) (106 + get_or old 1 0 * 3 + 1) end) (106 + get_or old 1 0 * 3 + 2) behind) 1 (get_or old 1 0 + 1) → PieceNoted old start end behind new
+piece_noted old new start end behind q = record { noted = λ ds ps s h r e. go ds ps s h r e }
   where
     go : (ds : List P.Define) (ps : List Piece) (s : Shows) → Holds ds ps old → length ps < 42 → behind ≡ behind_in s → Holds ds (ps ++ (record { start = start; end = end; behind = s } ∷ [])) new
     go ds ps s h r e =
         let k = holds_pieces ds ps old h in
         record {
-          is = rw (q₃, q₂, q₁, q₀, k, e, h.is) (piece_more ds ps (record { start = start; end = end; behind = s }) (106 + length ps * 3) (106 + length ps * 3 + 1) (106 + length ps * 3 + 2) h.few r refl refl refl);
+          is = rw (q, k, e, h.is) (piece_more ds ps (record { start = start; end = end; behind = s }) (106 + length ps * 3) (106 + length ps * 3 + 1) (106 + length ps * 3 + 2) h.few r refl refl refl);
           few = h.few;
           short = omega (arith, one_longer ps (record { start = start; end = end; behind = s }));
         }

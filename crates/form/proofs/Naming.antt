@@ -5,6 +5,7 @@ use mathlib.Core.List.{List, [], ◌∷◌, ◌++◌, append_assoc}
 use Prim.Native.Nat.{ℕ, zero, suc, ◌+◌, ◌-◌, ◌≤◌}
 use native.Mathlib.Omega.{arith}
 use lib.ListN.{length, get_or, length-append}
+use Rattle.std.specs.Prelude.{Some, None}
 use Rattle.paper.specs.Byte.{bytes}
 use Rattle.paper.specs.Line.{escape, quoted}
 use Rattle.paper.specs.Command as P
@@ -14,7 +15,6 @@ use Rattle.paper.proofs.Test.{Passed, held, held_right}
 use Rattle.command.specs.View.{width}
 use Rattle.form.specs.Plan.{shows_of}
 use Rattle.form.specs.Ending.{value_ending, ending_of}
-use Rattle.form.specs.declared.ending.Ending.TheVariants.{Whole}
 
 -- the byte so many places before the end
 abbrev pub back : List ℕ → ℕ → ℕ
@@ -39,14 +39,14 @@ mark false = 34
 
 -- a line that names no value
 pub record Plain (d : P.Draw) : Type 0 where
-  pub ending : ending_of (shows_of d) ≡ Whole
+  pub ending : ending_of (shows_of d) ≡ None
   pub closed : get_or (line_text (P.draw d)) 0 0 ≡ 65 → back (line_text (P.draw d)) 1 ≡ 34
 
 -- a line that names one
 pub record Names (d : P.Draw) (value : P.Value) (opens : Bool) : Type 0 where
   pub front : List ℕ
   pub is : line_text (P.draw d) ≡ (65 ∷ front) ++ (mark opens ∷ value_text value)
-  pub ending : ending_of (shows_of d) ≡ value_ending value opens
+  pub ending : ending_of (shows_of d) ≡ Some (value_ending value opens)
   pub range : all_of (draw_ranges width d) ≡ true → Passed (value_range value)
 
 -- each line is one of the two
@@ -101,7 +101,7 @@ joined_names s t value =
     }
 
 -- a line that begins with another letter
-other_plain : (d : P.Draw) → ending_of (shows_of d) ≡ Whole → (get_or (line_text (P.draw d)) 0 0 ≡ 65 → ⊥) → Plain d
+other_plain : (d : P.Draw) → ending_of (shows_of d) ≡ None → (get_or (line_text (P.draw d)) 0 0 ≡ 65 → ⊥) → Plain d
 other_plain d e f = record { ending = e; closed = λ h. absurd (f h) }
 
 -- a line that draws is a text with one of the three contents, or begins with another letter

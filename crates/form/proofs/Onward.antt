@@ -1,11 +1,12 @@
 -- A plan line by line: what is noted of the lines before a place, and what a line more does.
-use Prim.Native.Nat.{ℕ, ◌+◌, ◌-◌, ◌≤◌, ◌<◌}
+use Prim.Native.Nat.{ℕ, ◌+◌, ◌-◌, ◌^◌, ◌≤◌, ◌<◌}
 use mathlib.Core.Path.{◌≡◌, refl, sym, ◌∙◌, ap}
 use mathlib.Core.Bool.{Bool, true, false}
 use mathlib.Core.List.{List, [], ◌∷◌, ◌++◌, append_assoc}
 use native.Mathlib.Omega.{arith}
 use lib.ListN.{length, length-append}
 use lib.Dec.{eqb}
+use Rattle.std.specs.Prelude.{Option, Some, None}
 use Rattle.paper.specs.Byte.{bytes}
 use Rattle.paper.specs.Line.{quote, escape, quoted}
 use Rattle.paper.specs.Command as P
@@ -16,15 +17,13 @@ use Rattle.paper.specs.Write.{line_text, draw_text, define_text, content_text, s
 use Rattle.text.specs.Place.{from}
 use Rattle.command.specs.View.{width}
 use Rattle.form.specs.Asked.{define_of, line_of}
-use Rattle.form.specs.Walk.{first_line, part_of}
+use Rattle.form.specs.Walk.{first_line}
 use Rattle.form.specs.Plan.{number_of, Shows, nothing, value, shows_of, gives_way, Piece, unless_none, if_value, opens_at, pieces}
 use Rattle.form.specs.Ending.{value_ending, ending_of, tail_of, number_in}
 use Rattle.form.specs.Noting.{DrawnRoom, GapRoom, DrawnNoted, GapNoted, Going, Walking, Walked}
 use Rattle.form.specs.declared.asked.Define.{Define}
-use Rattle.form.specs.declared.asked.Line.{Line}
-use Rattle.form.specs.declared.asked.Line.TheVariants.{Definition, Other}
 use Rattle.form.specs.declared.ending.Ending.{Ending}
-use Rattle.form.proofs.Lines.{Tells, clash, Turn, line_turn, end_inside}
+use Rattle.form.proofs.Lines.{Tells, Turn, line_turn}
 use Rattle.form.proofs.Ends.{Ends, Shown, shown_range}
 use Rattle.form.proofs.LastBytes.{counter_few, variable_few, counter_text, variable_text}
 use Rattle.form.proofs.Distinct.{small, number_below}
@@ -91,63 +90,68 @@ cons_tail : {x y : FormLine} {xs ys : List FormLine} → x ∷ xs ≡ y ∷ ys �
 cons_tail e = cc
 
 -- a line ends in the text
-pub end_within : (text plan : List ℕ) (start at end : ℕ) → Walking text plan start at → end ≡ at + length (first_line (from text at)) → end ≤ length text
-end_within text plan start at end w e = (end_inside text at end w.before e).ends
+pub end_within : (plan : List ℕ) (start at : ℕ) (bytes : List ℕ) → Walking plan start at bytes → at + length bytes + 1 < 2 ^ 64
+end_within plan start at bytes w =
+    let g = w.going in
+    let t = line_turn w.text at g.left bytes g.here g.inside w.before w.stands in
+    omega (arith, t.within, w.fits)
 
-module _ (text old : List ℕ) (start at end : ℕ) (line : Line) (w : Walking text old start at) (e : end ≡ at + length (first_line (from text at))) (told : Tells (part_of text at end) line) where
+module _ (old : List ℕ) (start at : ℕ) (bytes : List ℕ) (told : Option Define) (tells : Tells bytes told) where
   -- the line at the place
-  turn : (ls : List FormLine) (g : Going ls text old start at) → Turn text at g.left end
-  turn ls g = line_turn text at g.left end g.here g.inside w.before e
+  turn : (text : List ℕ) (ls : List FormLine) (g : Going ls text old start at) → at < length text → bytes ≡ first_line (from text at) → Turn text at g.left bytes
+  turn text ls g b e = line_turn text at g.left bytes g.here g.inside b e
 
-  module _ (other : line ≡ Other) (ending : Ending) (ends : Ends (part_of text at end) ending) where
+  module _ (other : told ≡ None) (ending : Option Ending) (ends : Ends bytes ending) where
     -- it draws
     record Draws (rest : List FormLine) : Type 0 where
       draw : P.Draw
       more : List FormLine
       is : rest ≡ P.draw draw ∷ more
-      place : end ≡ at + length (draw_text draw)
+      long : length bytes ≡ length (draw_text draw)
       ending_is : ending ≡ ending_of (shows_of draw)
       shown : Shown (shows_of draw)
 
-    draws : (ls : List FormLine) (g : Going ls text old start at) → Draws g.left
+    draws : (rest : List FormLine) (l : FormLine) (more : List FormLine) → rest ≡ l ∷ more → bytes ≡ line_text l → in_range width (P.keep l) ≡ true → Draws rest
     unfolding line_text in_range ranges line_of
-    draws ls g = let t = turn ls g in go t.line t.more t.is t.stands t.place t.range (sym other ∙ told t.line t.stands t.range)
-      where
-        go : (l : FormLine) (more : List FormLine) → g.left ≡ l ∷ more → part_of text at end ≡ line_text l → end ≡ at + length (line_text l) → in_range width (P.keep l) ≡ true → Other ≡ line_of l → Draws g.left
-        go (P.draw d) more is s p i o = record { draw = d; more = more; is = is; place = p; ending_is = ends d s i; shown = shown_range d i }
-        go (P.define d) more is s p i o = clash _ o
+    draws rest (P.draw d) more is s i = record { draw = d; more = more; is = is; long = ap length s; ending_is = ends d s i; shown = shown_range d i }
+    draws rest (P.define d) more is s i = let defines = tells (P.define d) s i in cc
 
-    pub drawn_room : DrawnRoom old ending end
-    drawn_room =
+    drawn : {text : List ℕ} {rest : List FormLine} (t : Turn text at rest bytes) → Draws rest
+    drawn t = draws _ t.line t.more t.is t.stands t.range
+
+    pub drawn_room : Walking old start at bytes → DrawnRoom old ending (at + length bytes)
+    drawn_room w =
         let g = w.going in
-        let d = draws w.lines g in
+        let d = drawn (turn w.text w.lines g w.before w.stands) in
         let tail = ap tail_of d.ending_is ∙ tail_is (shows_of d.draw) d.shown in
         record {
           room = piece_room g.defines g.done old g.holds (omega (arith, g.short));
-          inside = omega (arith, tail, gives_inside d.draw, d.place);
+          inside = omega (arith, tail, gives_inside d.draw, d.long);
           small = omega (arith, ap number_in d.ending_is, number_is (shows_of d.draw) d.shown);
         }
 
-    pub drawn_walks : (new : List ℕ) (r : ℕ) → DrawnNoted old ending start end new r → Walked text old start at new r (end + 1)
+    pub drawn_walks : (new : List ℕ) (r : ℕ) → DrawnNoted old ending start (at + length bytes) new r → Walked old start at bytes new r
     unfolding pieces asked
-    drawn_walks new r n = record { goes = goes; onward = omega (arith, (end_inside text at end w.before e).begins) }
+    drawn_walks new r n = record { goes = goes }
       where
-        goes : (ls : List FormLine) → Going ls text old start at → Going ls text new r (end + 1)
-        goes ls g =
-            let t = turn ls g in
-            let d = draws ls g in
+        goes : (text : List ℕ) (ls : List FormLine) → Going ls text old start at → at < length text → bytes ≡ first_line (from text at) → Going ls text new r (at + length bytes + 1)
+        goes text ls g b e =
+            let t = turn text ls g b e in
+            let d = drawn t in
             let s = shows_of d.draw in
+            let end = at + length bytes in
             let tail = ap tail_of d.ending_is ∙ tail_is s d.shown in
             let piece : Piece = record { start = start; end = end - length (gives_way s); behind = s } in
             let same : t.more ≡ d.more = cons_tail (sym t.is ∙ d.is) in
-            let ends_at : end - length (gives_way s) ≡ at + (length (draw_text d.draw) - length (gives_way s)) = omega (arith, d.place, gives_inside d.draw) in
-            let next : end + 1 ≡ at + (length (draw_text d.draw) + 1) = omega (arith, d.place) in
-            let opens : r ≡ opens_at s start (at + length (draw_text d.draw)) = n.opens s d.ending_is ∙ ap (opens_at s start) d.place in
+            let ends_at : end - length (gives_way s) ≡ at + (length (draw_text d.draw) - length (gives_way s)) = omega (arith, d.long, gives_inside d.draw) in
+            let next : end + 1 ≡ at + (length (draw_text d.draw) + 1) = omega (arith, d.long) in
+            let opens : r ≡ opens_at s start (at + length (draw_text d.draw)) = n.opens s d.ending_is ∙ ap (λ x. opens_at s start (at + x)) d.long in
             record {
               left = d.more;
               defines = g.defines;
               done = g.done ++ if_value s piece [];
               here = t.after ∙ ap text_of same;
+              within = t.within;
               inside = ap (all_in width) (sym same) ∙ t.below;
               holds = n.noted g.defines g.done s g.holds (omega (arith, g.short)) d.ending_is tail;
               asks = g.asks ∙ ap (λ x. g.defines ++ asked x) d.is;
@@ -156,63 +160,65 @@ module _ (text old : List ℕ) (start at end : ℕ) (line : Line) (w : Walking t
               short = omega (arith, g.short, ap length d.is, length-append g.done (if_value s piece []), if_one s piece);
             }
 
-  module _ (define : Define) (is : line ≡ Definition define) where
+  module _ (define : Define) (is : told ≡ Some define) where
     -- it defines
     record Defines (rest : List FormLine) : Type 0 where
       what : P.Define
       more : List FormLine
       is_one : rest ≡ P.define what ∷ more
-      place : end ≡ at + length (define_text what)
+      long : length bytes ≡ length (define_text what)
       told_so : define ≡ define_of what
       small : number_of (value_of what) < 26
 
-    defines : (ls : List FormLine) (g : Going ls text old start at) → Defines g.left
+    defines : (rest : List FormLine) (l : FormLine) (more : List FormLine) → rest ≡ l ∷ more → bytes ≡ line_text l → in_range width (P.keep l) ≡ true → Defines rest
     unfolding line_text line_of
-    defines ls g = let t = turn ls g in go t.line t.more t.is t.place t.range (sym is ∙ told t.line t.stands t.range)
-      where
-        go : (l : FormLine) (more : List FormLine) → g.left ≡ l ∷ more → end ≡ at + length (line_text l) → in_range width (P.keep l) ≡ true → Definition define ≡ line_of l → Defines g.left
-        go (P.draw d) more q p i o = clash _ (sym o)
-        go (P.define d) more q p i o = let same : define ≡ define_of d = cc in record { what = d; more = more; is_one = q; place = p; told_so = same; small = define_small d i }
+    defines rest (P.draw d) more q s i = let other = tells (P.draw d) s i in cc
+    defines rest (P.define d) more q s i =
+        let same : Some define ≡ Some (define_of d) = sym is ∙ tells (P.define d) s i in
+        record { what = d; more = more; is_one = q; long = ap length s; told_so = cc; small = define_small d i }
+
+    defined : {text : List ℕ} {rest : List FormLine} (t : Turn text at rest bytes) → Defines rest
+    defined t = defines _ t.line t.more t.is t.stands t.range
 
     -- a definition more is one that the form asks for
-    room_more : (ls : List FormLine) (g : Going ls text old start at) → length g.defines < 26
+    room_more : (text : List ℕ) (ls : List FormLine) (g : Going ls text old start at) → Defines g.left → length g.defines < 26
     unfolding asked
-    room_more ls g =
-        let d = defines ls g in
+    room_more text ls g d =
         let all = ap length (g.asks ∙ ap (λ x. g.defines ++ asked x) d.is_one) in
         omega (arith, g.few, all, length-append g.defines (d.what ∷ asked d.more))
 
-    pub gap_room : GapRoom old define
-    gap_room =
+    pub gap_room : Walking old start at bytes → GapRoom old define
+    gap_room w =
         let g = w.going in
-        let d = defines w.lines g in
+        let d = defined (turn w.text w.lines g w.before w.stands) in
         record {
           told = record { what = d.what; is = d.told_so; small = d.small };
           defines = g.defines;
           pieces = g.done;
           holds = g.holds;
-          few = room_more w.lines g;
+          few = room_more w.text w.lines g d;
           short = omega (arith, g.short);
         }
 
-    pub gap_walks : (new : List ℕ) → GapNoted old define start at new → Walked text old start at new (end + 1) (end + 1)
+    pub gap_walks : (new : List ℕ) → GapNoted old define start at new → Walked old start at bytes new (at + length bytes + 1)
     unfolding pieces asked
-    gap_walks new n = record { goes = goes; onward = omega (arith, (end_inside text at end w.before e).begins) }
+    gap_walks new n = record { goes = goes }
       where
-        goes : (ls : List FormLine) → Going ls text old start at → Going ls text new (end + 1) (end + 1)
-        goes ls g =
-            let t = turn ls g in
-            let d = defines ls g in
+        goes : (text : List ℕ) (ls : List FormLine) → Going ls text old start at → at < length text → bytes ≡ first_line (from text at) → Going ls text new (at + length bytes + 1) (at + length bytes + 1)
+        goes text ls g b e =
+            let t = turn text ls g b e in
+            let d = defined t in
             let piece : Piece = record { start = start; end = at; behind = nothing } in
             let same : t.more ≡ d.more = cons_tail (sym t.is ∙ d.is_one) in
-            let next : end + 1 ≡ at + (length (define_text d.what) + 1) = omega (arith, d.place) in
+            let next : at + length bytes + 1 ≡ at + (length (define_text d.what) + 1) = omega (arith, d.long) in
             record {
               left = d.more;
               defines = g.defines ++ (d.what ∷ []);
               done = g.done ++ unless_none (eqb start at) piece [];
               here = t.after ∙ ap text_of same;
+              within = t.within;
               inside = ap (all_in width) (sym same) ∙ t.below;
-              holds = n.noted g.defines g.done d.what g.holds (room_more ls g) (omega (arith, g.short)) d.told_so;
+              holds = n.noted g.defines g.done d.what g.holds (room_more text ls g d) (omega (arith, g.short)) d.told_so;
               asks = g.asks ∙ ap (λ x. g.defines ++ asked x) d.is_one ∙ sym (append_assoc g.defines (d.what ∷ []) (asked d.more));
               cuts = g.cuts ∙ ap (λ x. g.done ++ pieces start at x) d.is_one ∙ rw (next, append_assoc, ← unless_then);
               few = g.few;

@@ -1,5 +1,5 @@
 -- A plan in the making: the definitions and the pieces that are noted so far, and the lines that are left.
-use Rattle.std.specs.Prelude.{ℕ, ◌+◌, ◌-◌, ◌≤◌, ◌<◌, ◌≡◌, true, List, [], ◌∷◌, ◌++◌, length, get_or, replicate, eqb}
+use Rattle.std.specs.Prelude.{ℕ, ◌+◌, ◌-◌, ◌^◌, ◌≤◌, ◌<◌, ◌≡◌, true, List, [], ◌∷◌, ◌++◌, length, get_or, replicate, eqb, Option}
 use Rattle.paper.specs.Command as P
 use Rattle.paper.specs.Command.{FormLine}
 use Rattle.paper.specs.Form.{text_of, asked, value_of, len_of}
@@ -8,6 +8,7 @@ use Rattle.text.specs.Place.{from}
 use Rattle.text.specs.Write.{padded}
 use Rattle.command.specs.View.{width}
 use Rattle.form.specs.Asked.{define_of}
+use Rattle.form.specs.Walk.{first_line}
 use Rattle.form.specs.Plan.{number_of, kind_of, step_size, defines_in, Shows, nothing, gives_way, Piece, unless_none, if_value, opens_at, pieces, behind_in, pieces_in, plan_of}
 use Rattle.form.specs.Ending.{ending_of, tail_of, number_in}
 use Rattle.form.specs.declared.asked.Define.{Define}
@@ -71,13 +72,13 @@ pub record Noted (old : List ℕ) (define : Define) (new : List ℕ) : Type 0 wh
   pub noted : (ds : List P.Define) (ps : List Piece) (d : P.Define) → Holds ds ps old → length ds < 26 → define ≡ define_of d → Holds (ds ++ (d ∷ [])) ps new
 
 -- an ending that a line up to a place may have
-pub record DrawnRoom (plan : List ℕ) (ending : Ending) (end : ℕ) : Type 0 where
+pub record DrawnRoom (plan : List ℕ) (ending : Option Ending) (end : ℕ) : Type 0 where
   pub room : PieceRoom plan
   pub inside : tail_of ending ≤ end
   pub small : number_in ending < 26
 
 -- the piece that a line ends is noted, if a value goes behind it
-pub record DrawnNoted (old : List ℕ) (ending : Ending) (start end : ℕ) (new : List ℕ) (r : ℕ) : Type 0 where
+pub record DrawnNoted (old : List ℕ) (ending : Option Ending) (start end : ℕ) (new : List ℕ) (r : ℕ) : Type 0 where
   pub noted : (ds : List P.Define) (ps : List Piece) (s : Shows) → Holds ds ps old → length ps < 42 → ending ≡ ending_of s → tail_of ending ≡ length (gives_way s)
       → Holds ds (ps ++ if_value s (record { start = start; end = end - length (gives_way s); behind = s }) []) new
   pub opens : (s : Shows) → ending ≡ ending_of s → r ≡ opens_at s start end
@@ -101,6 +102,7 @@ pub record Going (ls : List FormLine) (text plan : List ℕ) (start at : ℕ) : 
   pub defines : List P.Define
   pub done : List Piece
   pub here : from text at ≡ text_of left
+  pub within : at ≤ length text
   pub inside : all_in width left ≡ true
   pub holds : Holds defines done plan
   pub asks : asked ls ≡ defines ++ asked left
@@ -108,16 +110,18 @@ pub record Going (ls : List FormLine) (text plan : List ℕ) (start at : ℕ) : 
   pub few : length (asked ls) ≤ 26
   pub short : length done + length left ≤ 40
 
--- a line stands at the place
-pub record Walking (text plan : List ℕ) (start at : ℕ) : Type 0 where
+-- a line stands at a place
+pub record Walking (plan : List ℕ) (start at : ℕ) (line : List ℕ) : Type 0 where
+  pub text : List ℕ
   pub lines : List FormLine
   pub going : Going lines text plan start at
   pub before : at < length text
+  pub stands : line ≡ first_line (from text at)
+  pub fits : length text < 2 ^ 64
 
--- it is noted, and the next place is behind it
-pub record Walked (text old : List ℕ) (start at : ℕ) (new : List ℕ) (began next : ℕ) : Type 0 where
-  pub goes : (ls : List FormLine) → Going ls text old start at → Going ls text new began next
-  pub onward : at < next
+-- it is noted
+pub record Walked (old : List ℕ) (start at : ℕ) (line new : List ℕ) (began : ℕ) : Type 0 where
+  pub goes : (text : List ℕ) (ls : List FormLine) → Going ls text old start at → at < length text → line ≡ first_line (from text at) → Going ls text new began (at + length line + 1)
 
 -- a form's text that a plan can be made of, and memory for it
 pub record Plannable (text plan : List ℕ) : Type 0 where

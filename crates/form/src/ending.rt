@@ -12,36 +12,23 @@ fn digit_of(b: u8) -> usize
     ensures value { result ≡ b - 48 }
     ensures upper_bound { result < 256 }
 {
-    if b < b'0' {
-        return 0;
-    }
-    (b - b'0') as usize
+    b.saturating_sub(b'0') as usize
 }
 
-// How a line that draws ends: the bytes that its value takes, the value's number, and whether it stands alone.
-#[derive(Clone, Copy)]
-pub enum Ending {
-    Whole,
-    Value {
-        tail: usize,
-        value: usize,
-        opens: bool,
-    },
+// A value at the end of a line that draws: the bytes that give way to it, its number, and whether it stands alone.
+#[derive(Clone, Copy, Debug, PartialEq, Eq)]
+pub struct Ending {
+    pub tail: usize,
+    pub value: usize,
+    pub opens: bool,
 }
 
 // A line that ends in a counter.
 fn counter_ending(n: usize, opens: bool) -> Ending
     ensures { result ≡ value_ending (P.counter n) opens }
 {
-    if opens {
-        return Ending::Value {
-            tail: 2,
-            value: n,
-            opens,
-        };
-    }
-    Ending::Value {
-        tail: 3,
+    Ending {
+        tail: if opens { 2 } else { 3 },
         value: n,
         opens,
     }
@@ -52,40 +39,29 @@ fn variable_ending(n: usize, opens: bool) -> Ending
     requires { n < 10000 }
     ensures { result ≡ value_ending (P.variable n) opens }
 {
-    if opens {
-        return Ending::Value {
-            tail: 3,
-            value: 10 + n,
-            opens,
-        };
-    }
-    Ending::Value {
-        tail: 4,
-        value: 10 + n,
+    let value = 10 + n;
+    Ending {
+        tail: if opens { 3 } else { 4 },
+        value,
         opens,
     }
 }
 
-// The ending of a line that draws: a text in normal form ends in its string's quote, in `Cn` or in `Vnn`, and a value that
-// stands alone is behind a comma.
-pub fn ending_of(line: &[u8]) -> Ending
+// The value that ends a line that draws, if one does: a text in normal form ends in its string's quote, in `Cn` or in `Vnn`, and
+// a value that stands alone is behind a comma.
+pub fn ending_of(line: &[u8]) -> Option<Ending>
     ensures { (d : P.Draw) → line.now ≡ line_text (P.draw d) → all_of (draw_ranges width d) ≡ true → result ≡ ending_of (shows_of d) }
 {
-    let size = line.len();
-    if size < 4 {
-        return Ending::Whole;
+    let [b'A', .., third, second, last] = line else {
+        return None;
+    };
+    if *last == b'"' {
+        return None;
     }
-    if line[0] != b'A' {
-        return Ending::Whole;
+    let ones = digit_of(*last);
+    if *second == b'C' {
+        return Some(counter_ending(ones, *third == b','));
     }
-    let last = line[size - 1];
-    if last == b'"' {
-        return Ending::Whole;
-    }
-    let ones = digit_of(last);
-    let second = line[size - 2];
-    if second == b'C' {
-        return counter_ending(ones, line[size - 3] == b',');
-    }
-    variable_ending(digit_of(second) * 10 + ones, line[size - 4] == b',')
+    let n = digit_of(*second) * 10 + ones;
+    Some(variable_ending(n, line[line.len() - 4] == b','))
 }

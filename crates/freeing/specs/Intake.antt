@@ -1,13 +1,13 @@
 -- A tablet's way in: its bytes come in pieces. Of a line that is not finished `put_kept` keeps as many as tell all of it, and where an LF ends the line `hear` is given
 -- what was kept, behind which nothing waits.
-use Rattle.std.specs.Prelude.{ℕ, ◌≡◌, true, not, List, [], ◌∷◌, ◌++◌, eqb, take}
+use Rattle.std.specs.Prelude.{ℕ, ◌≡◌, true, not, List, [], ◌∷◌, ◌++◌, eqb, take, Result}
 use Rattle.paper.specs.Byte.{every}
 use Rattle.paper.specs.Line.{lf, kept}
 use Rattle.paper.specs.Refusal as R
 use Rattle.paper.specs.Class.{Class}
 use Rattle.paper.specs.Freeing.{freeing_answers, Freed}
 use Rattle.command.specs.Answer.{Meets}
-use Rattle.command.specs.declared.Answer.{Answer}
+use Rattle.command.specs.declared.Refusal.{Refusal}
 use Rattle.wait.specs.Waiting.{Waits, Comes}
 use Rattle.call.specs.Call.{Memory}
 use Rattle.tablets.specs.Calls.{Reached, HearsLine}
@@ -22,7 +22,7 @@ pub record Intake : Type 0 where
 -- what came: bytes of a line, and what waits then; or an LF, and what `hear` did with the buffer that was lent to it, with memory, and answered
 pub data Arrival : Type 0 where
   more : (s new : List ℕ) (len : ℕ) → Arrival
-  ending : (old new : List ℕ) (next : Memory) (answer : Answer) → Arrival
+  ending : (old new : List ℕ) (next : Memory) (answer : Result ℕ Refusal) → Arrival
 
 -- it is as promised: of `put_kept`, which gets bytes without an LF, and of `hear`, which gets what waits
 abbrev pub AsPromised : (t : ℕ) → Intake → Arrival → Type 0

@@ -8,6 +8,8 @@ use mathlib.Core.Option.{Option, none, some}
 use native.Mathlib.Omega.{arith}
 use lib.ListN.{length}
 use lib.Dec.{eqb}
+use Rattle.std.specs.Prelude as Std
+use Rattle.std.specs.Prelude.{Ok, Err, Some, None}
 use Rattle.paper.specs.Byte.{bytes, between, every, any, among, same}
 use Rattle.paper.specs.Line.{is_digit}
 use Rattle.paper.specs.Command.{FormLine, start, delete, is_name_byte, is_name, star}
@@ -20,11 +22,11 @@ use Rattle.paper.proofs.Store.{same_self}
 use Rattle.paper.proofs.Test.{clash, either}
 use Rattle.paper.proofs.Text.{same_eq}
 use Rattle.text.specs.declared.read.Span.{Span}
-use Rattle.command.specs.View.{width, text_in}
+use Rattle.command.specs.View.{width, refusal_of, text_in}
+use Rattle.command.specs.declared.Refusal.TheVariants as W
 use Rattle.store.specs.Packed.{Store, find_from}
 use Rattle.store.specs.Lent.{Stocked, Finds}
 use Rattle.store.specs.declared.Found.{Found}
-use Rattle.store.specs.declared.Found.TheVariants as F
 use Rattle.store.proofs.Standing.{stocks}
 use Rattle.session.specs.Memory.{entries_of, number_of}
 use Rattle.session.specs.Outcome.{Named, Starred}
@@ -36,7 +38,6 @@ use Rattle.seats.proofs.States.{another_beside, beside_alike}
 use Rattle.seats.proofs.Others.{number_below, collects_beside, others_hold, others_strike}
 use Rattle.filing.proofs.Finding.{Among, entries_absent, entries_found}
 use Rattle.guard.specs.Guarded.{Watches, Watching, absent, unheld, Frees, Guarding, Bars}
-use Rattle.guard.specs.declared.Guard.TheVariants as G
 
 -- both of two tests fail where the second does, and the first passes where it alone may
 fails_with : (a b : Bool) → b ≡ false → (a && b) ≡ false
@@ -126,16 +127,16 @@ watching_numbers store held t w = ap length w.watches.numbers ∙ numbers_length
 
 module _ (store : Store) (held : List ℕ) (t : ℕ) where
   -- what is found is what the forms of the class give
-  found_in : (c : Class) (name : List ℕ) (found : Found) → Watches store held t c → Finds store name found → find_from 0 0 name (entries_of c.forms) ≡ found
+  found_in : (c : Class) (name : List ℕ) (found : Std.Option Found) → Watches store held t c → Finds store name found → find_from 0 0 name (entries_of c.forms) ≡ found
   unfolding store_kept
   found_in c name found w f = sym (f.finds (store_kept store c.forms w.forms w.sane.forms))
 
-  absent_in : (c : Class) (name : List ℕ) (found : Found) → Watches store held t c → Finds store name found → found ≡ F.Absent → find name c.forms ≡ none
+  absent_in : (c : Class) (name : List ℕ) (found : Std.Option Found) → Watches store held t c → Finds store name found → found ≡ None → find name c.forms ≡ none
   absent_in c name found w f e = entries_absent name c.forms 0 0 (found_in c name found w f ∙ e)
 
-  stands_in : (c : Class) (name : List ℕ) (found : Found) (index place len : ℕ) → Watches store held t c → Finds store name found → found ≡ F.At index place len → Among name c.forms 0 0 index place len
-  stands_in c name found index place len w f e =
-      entries_found name c.forms 0 0 index place len w.sane.forms.each (found_in c name found w f ∙ e)
+  stands_in : (c : Class) (name : List ℕ) (found : Std.Option Found) (it : Found) → Watches store held t c → Finds store name found → found ≡ Some it → Among name c.forms 0 0 it.index it.start it.len
+  stands_in c name found it w f e =
+      entries_found name c.forms 0 0 it w.sane.forms.each (found_in c name found w f ∙ e)
 
   -- another collects; another holds a form open; another holds the form of a name open
   collect_in : (c : Class) (r : Bool) → Watches store held t c → Asked held t 1 2 0 0 r → another c t (λ x. collects x.session) ≡ r
@@ -159,7 +160,7 @@ module _ (store : Store) (held : List ℕ) (t : ℕ) where
   start_frees c name e = record { free = e; stays = λ other p. let never : ◌≡◌ {A = ℕ} 0 1 = cc in absurd (omega arith) }
 
   -- `FS` while no other collects
-  pub start_alone : (name : List ℕ) (r : Bool) → Asked held t 1 2 0 0 r → r ≡ false → Bars store held t (some (start name)) G.Free
+  pub start_alone : (name : List ℕ) (r : Bool) → Asked held t 1 2 0 0 r → r ≡ false → Bars store held t (some (start name)) (Ok None)
   unfolding Guarding
   start_alone name r a e =
       record {
@@ -169,18 +170,18 @@ module _ (store : Store) (held : List ℕ) (t : ℕ) where
       }
 
   -- of a name that is taken
-  pub start_taken : (name : List ℕ) (found : Found) (index place len : ℕ) → Finds store name found → found ≡ F.At index place len → Bars store held t (some (start name)) G.Free
+  pub start_taken : (name : List ℕ) (found : Std.Option Found) (it : Found) → Finds store name found → found ≡ Some it → Bars store held t (some (start name)) (Ok None)
   unfolding Guarding is_some
-  start_taken name found index place len f e =
+  start_taken name found it f e =
       record {
         guards = λ c w.
-            let taken : not (is_some (find name c.forms)) ≡ false = rw (stands_in c name found index place len w f e).found in
+            let taken : not (is_some (find name c.forms)) ≡ false = rw (stands_in c name found it w f e).found in
             start_frees c name (barred_start c t name ∙ if_false _ _ _ (rw taken));
       }
 
   -- and of one that is free while another collects
-  pub start_barred : (name : List ℕ) (r : Bool) (found : Found) → Asked held t 1 2 0 0 r → r ≡ true → Finds store name found → found ≡ F.Absent → Bars store held t (some (start name)) G.Collected
-  unfolding Guarding is_some
+  pub start_barred : (name : List ℕ) (r : Bool) (found : Std.Option Found) → Asked held t 1 2 0 0 r → r ≡ true → Finds store name found → found ≡ None → Bars store held t (some (start name)) (Err W.OthersCollect)
+  unfolding Guarding is_some refusal_of
   start_barred name r found a e f q =
       record {
         guards = λ c w.
@@ -198,14 +199,14 @@ module _ (store : Store) (held : List ℕ) (t : ℕ) where
   unstruck c name e = barred_delete c t name ∙ if_false _ _ _ e
 
   -- of the star
-  pub star_held : (name : List ℕ) (b r : Bool) → b ≡ same name star → b ≡ true → Asked held t 3 6 0 7 r → r ≡ true → Bars store held t (some (delete name)) G.HeldOpen
-  unfolding Guarding
+  pub star_held : (name : List ℕ) (b r : Bool) → b ≡ same name star → b ≡ true → Asked held t 3 6 0 7 r → r ≡ true → Bars store held t (some (delete name)) (Err W.HeldOpen)
+  unfolding Guarding refusal_of
   star_held name b r i y a e =
       let it : name ≡ star = same_eq name star (sym i ∙ y) in
       record { guards = λ c w. rw it (struck c star (hold_in c r w a ∙ e)) }
 
   -- where no other holds a form open
-  pub delete_unheld : (name : List ℕ) (r : Bool) → Asked held t 3 6 0 7 r → r ≡ false → Bars store held t (some (delete name)) G.Free
+  pub delete_unheld : (name : List ℕ) (r : Bool) → Asked held t 3 6 0 7 r → r ≡ false → Bars store held t (some (delete name)) (Ok None)
   unfolding Guarding
   delete_unheld name r a e =
       record {
@@ -218,7 +219,7 @@ module _ (store : Store) (held : List ℕ) (t : ℕ) where
       }
 
   -- of a name without a form: none holds a form of that name open
-  pub delete_absent : (s : List ℕ) (string : Span) (found : Found) → Named s string → Finds store (text_in s string) found → found ≡ F.Absent → Bars store held t (some (delete (text_in s string))) G.Free
+  pub delete_absent : (s : List ℕ) (string : Span) (found : Std.Option Found) → Named s string → Finds store (text_in s string) found → found ≡ None → Bars store held t (some (delete (text_in s string))) (Ok None)
   unfolding Guarding
   delete_absent s string found h f q =
       let name : List ℕ = text_in s string in
@@ -230,32 +231,32 @@ module _ (store : Store) (held : List ℕ) (t : ℕ) where
       }
 
   -- of a stored form
-  pub delete_held : (s : List ℕ) (string : Span) (r : Bool) (found : Found) (index place len : ℕ) → Named s string → Finds store (text_in s string) found → found ≡ F.At index place len → Asked held t 3 6 index index r → r ≡ true
-      → Bars store held t (some (delete (text_in s string))) G.HeldOpen
-  unfolding Guarding
-  delete_held s string r found index place len h f q a e =
+  pub delete_held : (s : List ℕ) (string : Span) (r : Bool) (found : Std.Option Found) (it : Found) → Named s string → Finds store (text_in s string) found → found ≡ Some it → Asked held t 3 6 it.index it.index r → r ≡ true
+      → Bars store held t (some (delete (text_in s string))) (Err W.HeldOpen)
+  unfolding Guarding refusal_of
+  delete_held s string r found it h f q a e =
       let name : List ℕ = text_in s string in
       record {
         guards = λ c w.
-            let there = stands_in c name found index place len w f q in
-            struck c name (strike_in c name index r w (name_one s string h) (omega (arith, there.number, there.first)) a ∙ e);
+            let there = stands_in c name found it w f q in
+            struck c name (strike_in c name it.index r w (name_one s string h) (omega (arith, there.number, there.first)) a ∙ e);
       }
 
-  pub delete_leaves : (s : List ℕ) (string : Span) (r : Bool) (found : Found) (index place len : ℕ) → Named s string → Finds store (text_in s string) found → found ≡ F.At index place len → Asked held t 3 6 index index r → r ≡ false
-      → Bars store held t (some (delete (text_in s string))) (G.Leaves index len)
+  pub delete_leaves : (s : List ℕ) (string : Span) (r : Bool) (found : Std.Option Found) (it : Found) → Named s string → Finds store (text_in s string) found → found ≡ Some it → Asked held t 3 6 it.index it.index r → r ≡ false
+      → Bars store held t (some (delete (text_in s string))) (Ok (Some (record { n = it.index; size = it.len })))
   unfolding Guarding
-  delete_leaves s string r found index place len h f q a e =
+  delete_leaves s string r found it h f q a e =
       let name : List ℕ = text_in s string in
       record {
         guards = λ c w.
-            let there = stands_in c name found index place len w f q in
-            let number : index ≡ number_of name c.forms = omega (arith, there.number, there.first) in
+            let there = stands_in c name found it w f q in
+            let number : it.index ≡ number_of name c.forms = omega (arith, there.number, there.first) in
             record {
               name = name;
               gone = there.here.lines;
               is = refl;
               one = name_one s string h;
-              free = unstruck c name (strike_in c name index r w (name_one s string h) number a ∙ e);
+              free = unstruck c name (strike_in c name it.index r w (name_one s string h) number a ∙ e);
               found = there.found;
               number = number;
               bytes = there.bytes;

@@ -10,6 +10,8 @@ use denote.Enum.Declared.{tag_of}
 use types.Run.{OneOf, hit, miss}
 use lib.ListN.{length}
 use borrow.Author.Tests.{lt-ltb}
+use Rattle.std.specs.Prelude as Std
+use Rattle.std.specs.Prelude.{Result, Ok, Err, None}
 use Rattle.paper.specs.Line.{long}
 use Rattle.paper.specs.Command as C
 use Rattle.paper.specs.Read.{command, unread, name_line, read}
@@ -21,7 +23,8 @@ use Rattle.paper.proofs.RoundTrip.{read_in_range}
 use Rattle.paper.proofs.Test.{held}
 use Rattle.text.specs.Place.{byte_at, from}
 use Rattle.text.specs.declared.read.Span.{Span}
-use Rattle.command.specs.View.{width, text_in, Holds, put_of, bar_of, view_of, Stand}
+use Rattle.command.specs.View.{width, text_in, Holds, put_of, bar_of, command_of, view_of, CommandStands, Stand}
+use Rattle.command.specs.declared.Refusal.{Refusal}
 use Rattle.command.specs.declared.Command.{Command}
 use Rattle.command.specs.declared.Command.TheVariants as L
 use Rattle.command.specs.contracts.Command as Tag
@@ -33,29 +36,30 @@ use Rattle.store.specs.Packed.{Store}
 use Rattle.session.specs.Outcome.{Named, Starred}
 use Rattle.guard.proofs.Barring.{Asked, start_alone, delete_unheld}
 use Rattle.guard.specs.Guarded.{Frees, Guarding, Bars, Guards, Led}
-use Rattle.guard.specs.declared.Guard.{Guard}
-use Rattle.guard.specs.declared.Guard.TheVariants as G
+use Rattle.guard.specs.declared.Leaving.{Leaving}
 
 -- what was read is in range
-read_range : (s : List ℕ) (c : Command) (p : C.Command) → IsRead s c → view_of s c ≡ command p → C.in_range width p ≡ true
-read_range s c p i v = read_in_range width s p (sym i.view ∙ v)
+read_range : (s : List ℕ) (r : Result Command Refusal) (p : C.Command) → IsRead s r → view_of s r ≡ command p → C.in_range width p ≡ true
+read_range s r p i v = read_in_range width s p (sym i.view ∙ v)
 
 -- the name in an `FS` line
-pub names_start : (s : List ℕ) (c : Command) (name : Span) → IsRead s c → c ≡ L.Start name → Named s name
-unfolding view_of Stand C.in_range C.ranges C.filing_ranges
-names_start s c name i e =
-    let stand : Stand s (L.Start name) = rw e at i.stand in
-    record { holds = stand.holds; named = (held _ (read_range s c (C.file (C.start (text_in s name))) i (ap (view_of s) e))).0.0 }
+pub names_start : (s : List ℕ) (r : Result Command Refusal) (c : Command) (name : Span) → IsRead s r → r ≡ Ok c → c ≡ L.Start name → Named s name
+unfolding view_of command_of Stand CommandStands C.in_range C.ranges C.filing_ranges
+names_start s r c name i o f =
+    let e : r ≡ Ok (L.Start name) = cc in
+    let stand : Stand s (Ok (L.Start name)) = rw e at i.stand in
+    record { holds = stand.holds; named = (held _ (read_range s r (C.file (C.start (text_in s name))) i (ap (view_of s) e))).0.0 }
 
 -- and in an `FK` line
-pub names_delete : (s : List ℕ) (c : Command) (name : Span) → IsRead s c → c ≡ L.Delete name → Starred s name
-unfolding view_of Stand C.in_range C.ranges C.filing_ranges
-names_delete s c name i e =
-    let stand : Stand s (L.Delete name) = rw e at i.stand in
-    record { holds = stand.holds; named = (held _ (read_range s c (C.file (C.delete (text_in s name))) i (ap (view_of s) e))).0.0 }
+pub names_delete : (s : List ℕ) (r : Result Command Refusal) (c : Command) (name : Span) → IsRead s r → r ≡ Ok c → c ≡ L.Delete name → Starred s name
+unfolding view_of command_of Stand CommandStands C.in_range C.ranges C.filing_ranges
+names_delete s r c name i o f =
+    let e : r ≡ Ok (L.Delete name) = cc in
+    let stand : Stand s (Ok (L.Delete name)) = rw e at i.stand in
+    record { holds = stand.holds; named = (held _ (read_range s r (C.file (C.delete (text_in s name))) i (ap (view_of s) e))).0.0 }
 
-pub holds_delete : (s : List ℕ) (c : Command) (name : Span) → IsRead s c → c ≡ L.Delete name → Holds s name
-holds_delete s c name i e = (names_delete s c name i e).holds
+pub holds_delete : (s : List ℕ) (r : Result Command Refusal) (c : Command) (name : Span) → IsRead s r → r ≡ Ok c → c ≡ L.Delete name → Holds s name
+holds_delete s r c name i o f = (names_delete s r c name i o f).holds
 
 -- the lines that others leave alone: those that are none to the store, `FE`, `FI` and `FR`
 none_frees : (c : Class) (t : ℕ) → Frees c t none
@@ -79,93 +83,74 @@ frees_by c t (some C.inform) starts deletes = inform_frees c t
 frees_by c t (some (C.recall name)) starts deletes = recall_frees c t name
 frees_by c t (some (C.delete name)) starts deletes = deletes name refl
 
--- the tag of the record of a line to the store
-abbrev tag_for : C.Filing → ℕ
-tag_for (C.start name) = 14
-tag_for C.finish = 2
-tag_for C.inform = 3
-tag_for (C.recall name) = 15
-tag_for (C.delete name) = 16
+-- what reads as `FS` was read to it
+reads_start : (s : List ℕ) (r : Result Command Refusal) (name : List ℕ) → filing_read (view_of s r) ≡ some (C.start name) → ((string : Span) → r ≡ Ok (L.Start string) → ⊥) → ⊥
+unfolding filing_read view_of command_of put_of bar_of
+reads_start s (Ok L.Empty) name e h = some_none e refl
+reads_start s (Ok L.New) name e h = some_none e refl
+reads_start s (Ok L.Finish) name e h = cc
+reads_start s (Ok L.Inform) name e h = cc
+reads_start s (Ok L.Ask) name e h = some_none e refl
+reads_start s (Ok (L.Size p₁ p₂)) name e h = some_none e refl
+reads_start s (Ok (L.Direction d)) name e h = some_none e refl
+reads_start s (Ok (L.Text put)) name e h = some_none e refl
+reads_start s (Ok (L.Black b)) name e h = some_none e refl
+reads_start s (Ok (L.Flip b)) name e h = some_none e refl
+reads_start s (Ok (L.White b)) name e h = some_none e refl
+reads_start s (Ok (L.Frame x₁ y₁ p x₂ y₂)) name e h = some_none e refl
+reads_start s (Ok (L.Counting n len step prompt)) name e h = some_none e refl
+reads_start s (Ok (L.Varying n len prompt)) name e h = some_none e refl
+reads_start s (Ok (L.Start string)) name e h = h string refl
+reads_start s (Ok (L.Recall string)) name e h = cc
+reads_start s (Ok (L.Delete string)) name e h = cc
+reads_start s (Ok (L.Print sets copies)) name e h = some_none e refl
+reads_start s (Err why) name e h = some_none e refl
 
-filed_tag : (s : List ℕ) (r : Command) (f : C.Filing) → filing_read (view_of s r) ≡ some f → tag_of Tag.the_type r ≡ tag_for f
-unfolding filing_read view_of put_of bar_of
-filed_tag s L.Empty f e = some_none e refl
-filed_tag s L.New f e = some_none e refl
-filed_tag s L.Finish f e = ap tag_for (some-injective _ _ e)
-filed_tag s L.Inform f e = ap tag_for (some-injective _ _ e)
-filed_tag s L.Ask f e = some_none e refl
-filed_tag s (L.Size p₁ p₂) f e = some_none e refl
-filed_tag s (L.Direction d) f e = some_none e refl
-filed_tag s (L.Text put) f e = some_none e refl
-filed_tag s (L.Black b) f e = some_none e refl
-filed_tag s (L.Flip b) f e = some_none e refl
-filed_tag s (L.White b) f e = some_none e refl
-filed_tag s (L.Frame x₁ y₁ p x₂ y₂) f e = some_none e refl
-filed_tag s (L.Counting n len step prompt) f e = some_none e refl
-filed_tag s (L.Varying n len prompt) f e = some_none e refl
-filed_tag s (L.Start name) f e = ap tag_for (some-injective _ _ e)
-filed_tag s (L.Recall name) f e = ap tag_for (some-injective _ _ e)
-filed_tag s (L.Delete name) f e = ap tag_for (some-injective _ _ e)
-filed_tag s (L.Print sets copies) f e = some_none e refl
-filed_tag s (L.Refused why) f e = some_none e refl
+-- and what reads as `FK`
+reads_delete : (s : List ℕ) (r : Result Command Refusal) (name : List ℕ) → filing_read (view_of s r) ≡ some (C.delete name) → ((string : Span) → r ≡ Ok (L.Delete string) → ⊥) → ⊥
+unfolding filing_read view_of command_of put_of bar_of
+reads_delete s (Ok L.Empty) name e h = some_none e refl
+reads_delete s (Ok L.New) name e h = some_none e refl
+reads_delete s (Ok L.Finish) name e h = cc
+reads_delete s (Ok L.Inform) name e h = cc
+reads_delete s (Ok L.Ask) name e h = some_none e refl
+reads_delete s (Ok (L.Size p₁ p₂)) name e h = some_none e refl
+reads_delete s (Ok (L.Direction d)) name e h = some_none e refl
+reads_delete s (Ok (L.Text put)) name e h = some_none e refl
+reads_delete s (Ok (L.Black b)) name e h = some_none e refl
+reads_delete s (Ok (L.Flip b)) name e h = some_none e refl
+reads_delete s (Ok (L.White b)) name e h = some_none e refl
+reads_delete s (Ok (L.Frame x₁ y₁ p x₂ y₂)) name e h = some_none e refl
+reads_delete s (Ok (L.Counting n len step prompt)) name e h = some_none e refl
+reads_delete s (Ok (L.Varying n len prompt)) name e h = some_none e refl
+reads_delete s (Ok (L.Start string)) name e h = cc
+reads_delete s (Ok (L.Recall string)) name e h = cc
+reads_delete s (Ok (L.Delete string)) name e h = h string refl
+reads_delete s (Ok (L.Print sets copies)) name e h = some_none e refl
+reads_delete s (Err why) name e h = some_none e refl
 
--- the tags of all records but `FS`, and of all but `FK`
-abbrev unstarted : List ℕ
-unstarted = 0 ∷ 1 ∷ 2 ∷ 3 ∷ 4 ∷ 5 ∷ 6 ∷ 7 ∷ 8 ∷ 9 ∷ 10 ∷ 11 ∷ 12 ∷ 13 ∷ 15 ∷ 16 ∷ 17 ∷ 18 ∷ []
+-- another record is not read as these
+pub other_start : (r : Result Command Refusal) (c : Command) → r ≡ Ok c → ((name : Span) → c ≡ L.Start name → ⊥) → (name : Span) → r ≡ Ok (L.Start name) → ⊥
+other_start r c o h name e = let f : c ≡ L.Start name = cc in h name f
 
-abbrev undeleted : List ℕ
-undeleted = 0 ∷ 1 ∷ 2 ∷ 3 ∷ 4 ∷ 5 ∷ 6 ∷ 7 ∷ 8 ∷ 9 ∷ 10 ∷ 11 ∷ 12 ∷ 13 ∷ 14 ∷ 15 ∷ 17 ∷ 18 ∷ []
+pub other_delete : (r : Result Command Refusal) (c : Command) → r ≡ Ok c → ((name : Span) → c ≡ L.Delete name → ⊥) → (name : Span) → r ≡ Ok (L.Delete name) → ⊥
+other_delete r c o h name e = let f : c ≡ L.Delete name = cc in h name f
 
-not_start : (c : Command) → ((name : Span) → c ≡ L.Start name → ⊥) → OneOf unstarted (tag_of Tag.the_type c)
-not_start L.Empty h = hit unstarted 0 tt
-not_start L.New h = hit unstarted 1 tt
-not_start L.Finish h = hit unstarted 2 tt
-not_start L.Inform h = hit unstarted 3 tt
-not_start L.Ask h = hit unstarted 4 tt
-not_start (L.Size p₁ p₂) h = hit unstarted 5 tt
-not_start (L.Direction d) h = hit unstarted 6 tt
-not_start (L.Text put) h = hit unstarted 7 tt
-not_start (L.Black b) h = hit unstarted 8 tt
-not_start (L.Flip b) h = hit unstarted 9 tt
-not_start (L.White b) h = hit unstarted 10 tt
-not_start (L.Frame x₁ y₁ t x₂ y₂) h = hit unstarted 11 tt
-not_start (L.Counting n len step prompt) h = hit unstarted 12 tt
-not_start (L.Varying n len prompt) h = hit unstarted 13 tt
-not_start (L.Start name) h = absurd (h name refl)
-not_start (L.Recall name) h = hit unstarted 15 tt
-not_start (L.Delete name) h = hit unstarted 16 tt
-not_start (L.Print sets copies) h = hit unstarted 17 tt
-not_start (L.Refused why) h = hit unstarted 18 tt
+-- nor is what was not read
+pub no_start : (r : Result Command Refusal) → ((c : Command) → r ≡ Ok c → ⊥) → (name : Span) → r ≡ Ok (L.Start name) → ⊥
+no_start r h name = h (L.Start name)
 
-not_delete : (c : Command) → ((name : Span) → c ≡ L.Delete name → ⊥) → OneOf undeleted (tag_of Tag.the_type c)
-not_delete L.Empty h = hit undeleted 0 tt
-not_delete L.New h = hit undeleted 1 tt
-not_delete L.Finish h = hit undeleted 2 tt
-not_delete L.Inform h = hit undeleted 3 tt
-not_delete L.Ask h = hit undeleted 4 tt
-not_delete (L.Size p₁ p₂) h = hit undeleted 5 tt
-not_delete (L.Direction d) h = hit undeleted 6 tt
-not_delete (L.Text put) h = hit undeleted 7 tt
-not_delete (L.Black b) h = hit undeleted 8 tt
-not_delete (L.Flip b) h = hit undeleted 9 tt
-not_delete (L.White b) h = hit undeleted 10 tt
-not_delete (L.Frame x₁ y₁ t x₂ y₂) h = hit undeleted 11 tt
-not_delete (L.Counting n len step prompt) h = hit undeleted 12 tt
-not_delete (L.Varying n len prompt) h = hit undeleted 13 tt
-not_delete (L.Start name) h = hit undeleted 14 tt
-not_delete (L.Recall name) h = hit undeleted 15 tt
-not_delete (L.Delete name) h = absurd (h name refl)
-not_delete (L.Print sets copies) h = hit undeleted 17 tt
-not_delete (L.Refused why) h = hit undeleted 18 tt
+pub no_delete : (r : Result Command Refusal) → ((c : Command) → r ≡ Ok c → ⊥) → (name : Span) → r ≡ Ok (L.Delete name) → ⊥
+no_delete r h name = h (L.Delete name)
 
 -- what an `FS` line and what an `FK` line is read as
-pub start_read : (s : List ℕ) (c : Command) → Led s (code "S") → Gives s (name_line (filing E.Start) (from s 2)) c → IsRead s c
+pub start_read : (s : List ℕ) (r : Result Command Refusal) → Led s (code "S") → Gives s (name_line (filing E.Start) (from s 2)) r → IsRead s r
 unfolding filing letter_of
-start_read s c l g = read_errand s E.Start [] c l.short l.shown (record { first = l.first; second = l.second }) g
+start_read s r l g = read_errand s E.Start [] r l.short l.shown (record { first = l.first; second = l.second }) g
 
-pub delete_read : (s : List ℕ) (c : Command) → Led s (code "K") → Gives s (name_line (filing E.Delete) (from s 2)) c → IsRead s c
+pub delete_read : (s : List ℕ) (r : Result Command Refusal) → Led s (code "K") → Gives s (name_line (filing E.Delete) (from s 2)) r → IsRead s r
 unfolding filing letter_of
-delete_read s c l g = read_errand s E.Delete [] c l.short l.shown (record { first = l.first; second = l.second }) g
+delete_read s r l g = read_errand s E.Delete [] r l.short l.shown (record { first = l.first; second = l.second }) g
 
 -- neither is read as the other
 start_deletes : (s : List ℕ) (name : List ℕ) → Led s (code "S") → filing_read (read width s) ≡ some (C.delete name) → ⊥
@@ -178,17 +163,17 @@ delete_starts s name l e = let there = read_leads s (C.start name) e in omega (a
 
 module _ (store : Store) (held : List ℕ) (t : ℕ) (s : List ℕ) where
   -- `FS` and `FK` were read
-  pub guards_start : (c : Command) (name : Span) (r : Guard) → IsRead s c → c ≡ L.Start name → Bars store held t (some (C.start (text_in s name))) r → Guards store held t s r
-  unfolding filing_read view_of
-  guards_start c name r i e b = rw (sym i.view ∙ ap (view_of s) e) b
+  pub guards_start : (c : Result Command Refusal) (line : Command) (name : Span) (r : Result (Std.Option Leaving) Refusal) → IsRead s c → c ≡ Ok line → line ≡ L.Start name → Bars store held t (some (C.start (text_in s name))) r → Guards store held t s r
+  unfolding filing_read view_of command_of
+  guards_start c line name r i o f b = rw (sym i.view ∙ ap (view_of s) (o ∙ ap Ok f)) b
 
-  pub guards_delete : (c : Command) (name : Span) (r : Guard) → IsRead s c → c ≡ L.Delete name → Bars store held t (some (C.delete (text_in s name))) r → Guards store held t s r
-  unfolding filing_read view_of
-  guards_delete c name r i e b = rw (sym i.view ∙ ap (view_of s) e) b
+  pub guards_delete : (c : Result Command Refusal) (line : Command) (name : Span) (r : Result (Std.Option Leaving) Refusal) → IsRead s c → c ≡ Ok line → line ≡ L.Delete name → Bars store held t (some (C.delete (text_in s name))) r → Guards store held t s r
+  unfolding filing_read view_of command_of
+  guards_delete c line name r i o f b = rw (sym i.view ∙ ap (view_of s) (o ∙ ap Ok f)) b
 
   -- of other lines nothing is made, and so nothing of a line from what is made of `FS` and of `FK`
-  guards_free : ((name : List ℕ) → filing_read (read width s) ≡ some (C.start name) → Bars store held t (some (C.start name)) G.Free)
-      → ((name : List ℕ) → filing_read (read width s) ≡ some (C.delete name) → Bars store held t (some (C.delete name)) G.Free) → Guards store held t s G.Free
+  guards_free : ((name : List ℕ) → filing_read (read width s) ≡ some (C.start name) → Bars store held t (some (C.start name)) (Ok None))
+      → ((name : List ℕ) → filing_read (read width s) ≡ some (C.delete name) → Bars store held t (some (C.delete name)) (Ok None)) → Guards store held t s (Ok None)
   unfolding Guarding
   guards_free starts deletes =
       record {
@@ -196,33 +181,33 @@ module _ (store : Store) (held : List ℕ) (t : ℕ) (s : List ℕ) where
       }
 
   -- an `FS` line that is not read, and an `FK` line
-  pub start_unread : (c : Command) → Led s (code "S") → IsRead s c → ((name : Span) → c ≡ L.Start name → ⊥) → Guards store held t s G.Free
-  start_unread c l i h =
+  pub start_unread : (r : Result Command Refusal) → Led s (code "S") → IsRead s r → ((name : Span) → r ≡ Ok (L.Start name) → ⊥) → Guards store held t s (Ok None)
+  start_unread r l i h =
       guards_free
-      (λ name e. absurd (miss unstarted 14 tt (rw (filed_tag s c (C.start name) (ap filing_read i.view ∙ e)) at (not_start c h))))
+      (λ name e. absurd (reads_start s r name (ap filing_read i.view ∙ e) h))
       (λ name e. absurd (start_deletes s name l e))
 
-  pub delete_unread : (c : Command) → Led s (code "K") → IsRead s c → ((name : Span) → c ≡ L.Delete name → ⊥) → Guards store held t s G.Free
-  delete_unread c l i h =
+  pub delete_unread : (r : Result Command Refusal) → Led s (code "K") → IsRead s r → ((name : Span) → r ≡ Ok (L.Delete name) → ⊥) → Guards store held t s (Ok None)
+  delete_unread r l i h =
       guards_free
       (λ name e. absurd (delete_starts s name l e))
-      (λ name e. absurd (miss undeleted 16 tt (rw (filed_tag s c (C.delete name) (ap filing_read i.view ∙ e)) at (not_delete c h))))
+      (λ name e. absurd (reads_delete s r name (ap filing_read i.view ∙ e) h))
 
   -- an `FS` line while no other collects, and an `FK` line while no other holds a form open, whatever their names
-  pub guards_alone : (r : Bool) → Led s (code "S") → Asked held t 1 2 0 0 r → r ≡ false → Guards store held t s G.Free
+  pub guards_alone : (r : Bool) → Led s (code "S") → Asked held t 1 2 0 0 r → r ≡ false → Guards store held t s (Ok None)
   guards_alone r l a n = guards_free (λ name e. start_alone store held t name r a n) (λ name e. absurd (start_deletes s name l e))
 
-  pub guards_unheld : (r : Bool) → Led s (code "K") → Asked held t 3 6 0 7 r → r ≡ false → Guards store held t s G.Free
+  pub guards_unheld : (r : Bool) → Led s (code "K") → Asked held t 3 6 0 7 r → r ≡ false → Guards store held t s (Ok None)
   guards_unheld r l a n = guards_free (λ name e. absurd (delete_starts s name l e)) (λ name e. delete_unheld store held t name r a n)
 
   -- lines with other letters
-  pub guards_first : (a : ℕ) → a ≡ byte_at s 0 → (a ≡ code "F" → ⊥) → Guards store held t s G.Free
+  pub guards_first : (a : ℕ) → a ≡ byte_at s 0 → (a ≡ code "F" → ⊥) → Guards store held t s (Ok None)
   guards_first a p n =
       guards_free
       (λ name e. absurd (n (p ∙ (read_leads s (C.start name) e).first)))
       (λ name e. absurd (n (p ∙ (read_leads s (C.delete name) e).first)))
 
-  pub guards_second : (b : ℕ) → b ≡ byte_at s 1 → (b ≡ code "S" → ⊥) → (b ≡ code "K" → ⊥) → Guards store held t s G.Free
+  pub guards_second : (b : ℕ) → b ≡ byte_at s 1 → (b ≡ code "S" → ⊥) → (b ≡ code "K" → ⊥) → Guards store held t s (Ok None)
   unfolding letter_of
   guards_second b p n m =
       guards_free
@@ -230,7 +215,7 @@ module _ (store : Store) (held : List ℕ) (t : ℕ) (s : List ℕ) where
       (λ name e. absurd (m (p ∙ (read_leads s (C.delete name) e).second)))
 
   -- and a line that is too long
-  pub guards_long : 256 < length s → Guards store held t s G.Free
+  pub guards_long : 256 < length s → Guards store held t s (Ok None)
   unfolding Guarding filing_read read long
   guards_long l =
       let is : read width s ≡ unread too_long = if_true _ _ _ (lt-ltb 256 (length s) l) in

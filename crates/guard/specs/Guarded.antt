@@ -1,20 +1,20 @@
 -- What the other tablets make of a line to the store that an idle tablet sends.
-use Rattle.std.specs.Prelude.{ℕ, ◌≤◌, ◌<◌, ◌≡◌, true, false, List, length}
+use Rattle.std.specs.Prelude as Std
+use Rattle.std.specs.Prelude.{ℕ, ◌≤◌, ◌<◌, ◌≡◌, true, false, List, length, Result, Ok, Err, Some, None}
 use Prim.Native.Char.{code}
 use Rattle.std.proofs.Math.Option.{Option, none, some}
 use Rattle.paper.specs.Byte.{every, same}
 use Rattle.paper.specs.Command.{FormLine, Filing, delete, star, is_shown}
-use Rattle.paper.specs.Refusal.{others_collect, held_open}
 use Rattle.paper.specs.Read.{read}
 use Rattle.paper.specs.Form.{text_of, find}
 use Rattle.paper.specs.Class.{Class, SaneClass, holds_form, another, filing_read, barred}
 use Rattle.text.specs.Place.{byte_at}
-use Rattle.command.specs.View.{width}
+use Rattle.command.specs.View.{width, refusal_of}
+use Rattle.command.specs.declared.Refusal.{Refusal}
 use Rattle.store.specs.Packed.{Store, packed}
 use Rattle.session.specs.Memory.{entries_of, packed_session, number_of}
 use Rattle.seats.specs.Seats.{numbers_of}
-use Rattle.guard.specs.declared.Guard.{Guard}
-use Rattle.guard.specs.declared.Guard.TheVariants as G
+use Rattle.guard.specs.declared.Leaving.{Leaving}
 
 -- the class whose store and sessions' numbers these are
 pub record Watches (store : Store) (held : List ℕ) (t : ℕ) (c : Class) : Type 0 where
@@ -49,19 +49,18 @@ pub record Takes (c : Class) (t : ℕ) (f : Option Filing) (n size : ℕ) : Type
   pub number : n ≡ number_of name c.forms
   pub bytes : size ≡ length (text_of gone)
 
--- what the others make of a line to the store: nothing; a refusal; or a stored form leaves, which they have to follow
-unfoldable pub Guarding : Class → ℕ → Option Filing → Guard → Type 0
-Guarding c t f G.Free = Frees c t f
-Guarding c t f G.Collected = barred c t f ≡ some others_collect
-Guarding c t f G.HeldOpen = barred c t f ≡ some held_open
-Guarding c t f (G.Leaves n size) = Takes c t f n size
+-- what the others make of a line to the store: nothing; a stored form leaves, which they have to follow; or a refusal
+unfoldable pub Guarding : Class → ℕ → Option Filing → Result (Std.Option Leaving) Refusal → Type 0
+Guarding c t f (Ok None) = Frees c t f
+Guarding c t f (Ok (Some leaving)) = Takes c t f leaving.n leaving.size
+Guarding c t f (Err why) = barred c t f ≡ some (refusal_of why)
 
 -- so in every class whose memory this is
-pub record Bars (store : Store) (held : List ℕ) (t : ℕ) (f : Option Filing) (r : Guard) : Type 0 where
+pub record Bars (store : Store) (held : List ℕ) (t : ℕ) (f : Option Filing) (r : Result (Std.Option Leaving) Refusal) : Type 0 where
   pub guards : (c : Class) → Watches store held t c → Guarding c t f r
 
 -- and so of a line that an idle tablet sends, by the line to the store that it reads as
-abbrev pub Guards : Store → List ℕ → ℕ → List ℕ → Guard → Type 0
+abbrev pub Guards : Store → List ℕ → ℕ → List ℕ → Result (Std.Option Leaving) Refusal → Type 0
 Guards store held t s r = Bars store held t (filing_read (read width s)) r
 
 -- a line of at most 256 bytes, none of them a control byte, that begins with `F` and this letter

@@ -11,8 +11,8 @@ ghost use Rattle.store.specs.Lent.{store_of, Stocked, Finds};
 ghost use Rattle.session.specs.Outcome.{Named};
 ghost use Rattle.guard.specs.Guarded.{Watching, Led, Bars, Guards};
 
-use command::Command;
 use command::range::is_star;
+use command::{Command, Refusal};
 use line::read::{Errand, LINE, name_line};
 use seats::beside::is_beside;
 use seats::numbers::PRINTING;
@@ -31,14 +31,15 @@ const FIRST: usize = 0;
 
 const LAST: usize = 7;
 
-// Nothing; refusal 17; refusal 19; or a stored form leaves, and the others follow it.
-#[derive(Clone, Copy)]
-pub enum Guard {
-    Free,
-    Collected,
-    HeldOpen,
-    Leaves { n: usize, size: usize },
+// A stored form that leaves, by its number, and the bytes of its text.
+#[derive(Clone, Copy, Debug, PartialEq, Eq)]
+pub struct Leaving {
+    pub n: usize,
+    pub size: usize,
 }
+
+// Nothing, or a stored form leaves, and the others follow it; or refusal 17 or 19.
+pub type Guard = Result<Option<Leaving>, Refusal>;
 
 // The form whose name stands in a line, looked for by a copy of the name.
 fn find_copied(
@@ -49,7 +50,7 @@ fn find_copied(
     lens: &[usize],
     s: &[u8],
     string: Span,
-) -> Found
+) -> Option<Found>
     requires stocked { Stocked (store_of filed all.now names.now texts.now lens.now) }
     requires named { Named s.now string }
     ensures { Finds (store_of filed all.now names.now texts.now lens.now) (text_in s.now string) result }
@@ -77,19 +78,18 @@ fn guard_start(
     ensures { Guards (store_of filed all.now names.now texts.now lens.now) held.now t s.now result }
 {
     if is_beside(held, t, COLLECTING, SPOILED, FIRST, FIRST) {
-        let Command::Start { name } = name_line(s, Errand::Start) else {
-            return Guard::Free;
+        let Ok(command) = name_line(s, Errand::Start) else {
+            return Ok(None);
+        };
+        let Command::Start { name } = command else {
+            return Ok(None);
         };
         return match find_copied(filed, all, names, texts, lens, s, name) {
-            Found::At {
-                index: _,
-                start: _,
-                len: _,
-            } => Guard::Free,
-            Found::Absent => Guard::Collected,
+            Some(_) => Ok(None),
+            None => Err(Refusal::OthersCollect),
         };
     }
-    Guard::Free
+    Ok(None)
 }
 
 // `FK` of a name: refusal 19 while another holds its form open.
@@ -108,21 +108,16 @@ fn guard_named(
     requires named { Named s.now string }
     ensures { Bars (store_of filed all.now names.now texts.now lens.now) held.now t (some (C.delete (text_in s.now string))) result }
 {
-    let Found::At {
-        index,
-        start: _,
-        len,
-    } = find_copied(filed, all, names, texts, lens, s, string)
-    else {
-        return Guard::Free;
+    let Some(found) = find_copied(filed, all, names, texts, lens, s, string) else {
+        return Ok(None);
     };
-    if is_beside(held, t, OPENED, PRINTING, index, index) {
-        return Guard::HeldOpen;
+    if is_beside(held, t, OPENED, PRINTING, found.index, found.index) {
+        return Err(Refusal::HeldOpen);
     }
-    Guard::Leaves {
-        n: index,
-        size: len,
-    }
+    Ok(Some(Leaving {
+        n: found.index,
+        size: found.len,
+    }))
 }
 
 // `FK`: refusal 19 while another holds open what it means. The others are asked first: where none of them holds a form open,
@@ -142,15 +137,18 @@ fn guard_delete(
     ensures { Guards (store_of filed all.now names.now texts.now lens.now) held.now t s.now result }
 {
     if is_beside(held, t, OPENED, PRINTING, FIRST, LAST) {
-        let Command::Delete { name } = name_line(s, Errand::Delete) else {
-            return Guard::Free;
+        let Ok(command) = name_line(s, Errand::Delete) else {
+            return Ok(None);
+        };
+        let Command::Delete { name } = command else {
+            return Ok(None);
         };
         if is_star(s, name) {
-            return Guard::HeldOpen;
+            return Err(Refusal::HeldOpen);
         }
         return guard_named(filed, all, names, texts, lens, held, t, s, name);
     }
-    Guard::Free
+    Ok(None)
 }
 
 // What the other tablets make of a line without control bytes that an idle tablet sends: only `FS` and `FK` matter to them, and
@@ -170,10 +168,10 @@ pub fn guarded(
     ensures { Guards (store_of filed all.now names.now texts.now lens.now) held.now t s.now result }
 {
     if byte_at(s, 0) != b'F' {
-        return Guard::Free;
+        return Ok(None);
     }
     if LINE < s.len() {
-        return Guard::Free;
+        return Ok(None);
     }
     let second = byte_at(s, 1);
     if second == b'S' {
@@ -182,5 +180,5 @@ pub fn guarded(
     if second == b'K' {
         return guard_delete(filed, all, names, texts, lens, held, t, s);
     }
-    Guard::Free
+    Ok(None)
 }

@@ -9,12 +9,12 @@ use lib.ListN.{length, take, drop, get_or, length-append, length-drop}
 use lib.Seq.{drop-drop, drop-append-le, take-append-le, get_or-take, get_or-drop}
 use borrow.Author.Tests.{eq-eqb}
 use borrow.Rule.Slice.PartMut.{same_len_mid}
+use Rattle.std.specs.Prelude.{Result}
 use Rattle.paper.specs.Form.{Form}
 use Rattle.paper.specs.Bench as P
 use Rattle.paper.specs.Class.{seat}
 use Rattle.paper.proofs.Invariant.{take_forms}
 use Rattle.paper.proofs.Apart.{seat_own, seat_other}
-use Rattle.command.specs.declared.Answer.{Answer}
 use Rattle.session.specs.Memory.{Session, Shelf, packed_session, packed_shelf}
 use Rattle.seats.specs.Numbers.{held_in}
 use Rattle.seats.specs.Seats.{flat, numbers_of}
@@ -22,6 +22,7 @@ use Rattle.seats.proofs.Flat.{flat_length, flat_at, flat_write}
 use Rattle.seats.proofs.Parted.{held_length}
 use Rattle.call.specs.Call.{Memory, memory_of, laid, packed_bench, Reached, HearsLine, TakesSet}
 use Rattle.lend.specs.Laid.{numbered, laid_out, Seated, Sits, SeatHears, SeatTakes}
+use Rattle.command.specs.declared.Refusal.{Refusal}
 
 -- the part of tablet t in parts of a width, as it is lent
 abbrev pub lent_at : (w t : ℕ) → List ℕ → List ℕ
@@ -213,7 +214,7 @@ sits_inside m t k =
 
 module _ (m : Memory) (t : ℕ) (next : Memory) where
   -- a line at its seat
-  pub seat_hears : (s old new : List ℕ) (r : Answer) → HearsLine (lent m t) s old next new r → SeatHears m t s old (back m t next) new r
+  pub seat_hears : (s old new : List ℕ) (r : Result ℕ Refusal) → HearsLine (lent m t) s old next new r → SeatHears m t s old (back m t next) new r
   unfolding lent_reached packed_bench
   seat_hears s old new r h =
       record {
@@ -222,7 +223,7 @@ module _ (m : Memory) (t : ℕ) (next : Memory) where
       }
 
   -- a set
-  pub seat_takes : (old new : List ℕ) (r : Answer) → TakesSet (lent m t) old next new r → SeatTakes m t old (back m t next) new r
+  pub seat_takes : (old new : List ℕ) (r : Result ℕ Refusal) → TakesSet (lent m t) old next new r → SeatTakes m t old (back m t next) new r
   unfolding lent_reached packed_bench
   seat_takes old new r h =
       record {

@@ -1,6 +1,6 @@
 -- Thirty sessions beside one store in memory, and what a call of one of them promises: what it promises of that session alone, and
 -- that every other stays.
-use Rattle.std.specs.Prelude.{ℕ, ◌<◌, ◌≡◌, List, [], ◌∷◌, ◌++◌, length}
+use Rattle.std.specs.Prelude.{ℕ, ◌<◌, ◌≡◌, List, [], ◌∷◌, ◌++◌, length, Result}
 use Rattle.paper.specs.Line.{kept}
 use Rattle.paper.specs.Form.{Form}
 use Rattle.paper.specs.Bench as P
@@ -8,7 +8,7 @@ use Rattle.paper.specs.State.{Sane}
 use Rattle.paper.specs.Class.{seat}
 use Rattle.command.specs.View.{width}
 use Rattle.command.specs.Answer.{Meets}
-use Rattle.command.specs.declared.Answer.{Answer}
+use Rattle.command.specs.declared.Refusal.{Refusal}
 use Rattle.session.specs.Memory.{Session, Shelf, packed_session, packed_shelf, Opens}
 use Rattle.session.specs.Outcome.{after_line}
 use Rattle.seats.specs.Numbers.{filed_in}
@@ -63,7 +63,7 @@ pub record Sits (self : Memory) (t : ℕ) : Type 0 where
   pub seated : Seated self t forms sessions number state last printing
 
 -- a line is heard at its seat as on the bench of 01, and all else stays
-pub record SeatHears (self : Memory) (t : ℕ) (s old : List ℕ) (next : Memory) (new : List ℕ) (r : Answer) : Type 0 where
+pub record SeatHears (self : Memory) (t : ℕ) (s old : List ℕ) (next : Memory) (new : List ℕ) (r : Result ℕ Refusal) : Type 0 where
   pub meets : (fs : List Form) (f : ℕ → Session) (n : ℕ) (st : P.Session) (last printing : ℕ) → Seated self t fs f n st last printing
       → Meets (P.hear width (length old) (record { forms = fs; session = st }) s).answer old new r
   pub leaves : (fs : List Form) (f : ℕ → Session) (n : ℕ) (st : P.Session) (last printing : ℕ) → Seated self t fs f n st last printing
@@ -71,7 +71,7 @@ pub record SeatHears (self : Memory) (t : ℕ) (s old : List ℕ) (next : Memory
       (seat t (packed_session (P.hear width (length old) (record { forms = fs; session = st }) s).next.forms (after_line n fs st (kept s)) (P.hear width (length old) (record { forms = fs; session = st }) s).next.session) f) last printing
 
 -- and so is a set
-pub record SeatTakes (self : Memory) (t : ℕ) (old : List ℕ) (next : Memory) (new : List ℕ) (r : Answer) : Type 0 where
+pub record SeatTakes (self : Memory) (t : ℕ) (old : List ℕ) (next : Memory) (new : List ℕ) (r : Result ℕ Refusal) : Type 0 where
   pub meets : (fs : List Form) (f : ℕ → Session) (n : ℕ) (st : P.Session) (last printing : ℕ) → Seated self t fs f n st last printing
       → Meets (P.take_set (length old) (record { forms = fs; session = st })).answer old new r
   pub leaves : (fs : List Form) (f : ℕ → Session) (n : ℕ) (st : P.Session) (last printing : ℕ) → Seated self t fs f n st last printing

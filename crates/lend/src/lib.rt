@@ -43,16 +43,6 @@ pub fn seat_answer(
     requires s_value { every is_shown s.now ≡ true }
     ensures { SeatHears (memory_of all.now names.now texts.now lens.now plans.now filed.now name.old text.old answers.old values.old held.old) t s.now reply.now (memory_of all.now names.now texts.now lens.now plans.now filed.now name.new text.new answers.new values.new held.new) reply.now result }
 {
-    let name_at = t * NAME;
-    let name_end = name_at + NAME;
-    let text_at = t * TEXT;
-    let text_end = text_at + TEXT;
-    let answers_at = t * ANSWERS;
-    let answers_end = answers_at + ANSWERS;
-    let values_at = t * VALUES;
-    let values_end = values_at + VALUES;
-    let held_at = t * WIDTH;
-    let held_end = held_at + WIDTH;
     hear_answer(
         all,
         names,
@@ -60,11 +50,11 @@ pub fn seat_answer(
         lens,
         plans,
         filed,
-        &mut name[name_at..name_end],
-        &mut text[text_at..text_end],
-        &mut answers[answers_at..answers_end],
-        &mut values[values_at..values_end],
-        &mut held[held_at..held_end],
+        &mut name[t * NAME..t * NAME + NAME],
+        &mut text[t * TEXT..t * TEXT + TEXT],
+        &mut answers[t * ANSWERS..t * ANSWERS + ANSWERS],
+        &mut values[t * VALUES..t * VALUES + VALUES],
+        &mut held[t * WIDTH..t * WIDTH + WIDTH],
         s,
         reply,
     )
@@ -92,16 +82,6 @@ pub fn seat_command(
     requires s_value { every is_shown s.now ≡ true }
     ensures { SeatHears (memory_of all.old names.old texts.old lens.old plans.old filed.old name.old text.old answers.old values.old held.old) t s.now reply.old (memory_of all.new names.new texts.new lens.new plans.new filed.new name.new text.new answers.new values.new held.new) reply.new result }
 {
-    let name_at = t * NAME;
-    let name_end = name_at + NAME;
-    let text_at = t * TEXT;
-    let text_end = text_at + TEXT;
-    let answers_at = t * ANSWERS;
-    let answers_end = answers_at + ANSWERS;
-    let values_at = t * VALUES;
-    let values_end = values_at + VALUES;
-    let held_at = t * WIDTH;
-    let held_end = held_at + WIDTH;
     hear_command(
         all,
         names,
@@ -109,11 +89,11 @@ pub fn seat_command(
         lens,
         plans,
         filed,
-        &mut name[name_at..name_end],
-        &mut text[text_at..text_end],
-        &mut answers[answers_at..answers_end],
-        &mut values[values_at..values_end],
-        &mut held[held_at..held_end],
+        &mut name[t * NAME..t * NAME + NAME],
+        &mut text[t * TEXT..t * TEXT + TEXT],
+        &mut answers[t * ANSWERS..t * ANSWERS + ANSWERS],
+        &mut values[t * VALUES..t * VALUES + VALUES],
+        &mut held[t * WIDTH..t * WIDTH + WIDTH],
         s,
         reply,
     )
@@ -138,16 +118,6 @@ pub fn seat_fault(
     requires { Sits (memory_of all.now names.now texts.now lens.now plans.now filed.now name.old text.old answers.old values.old held.old) t }
     ensures { (s line b : List ℕ) → Waits (kept s) line n → control (take n line) ≡ true → SeatHears (memory_of all.now names.now texts.now lens.now plans.now filed.now name.old text.old answers.old values.old held.old) t s b (memory_of all.now names.now texts.now lens.now plans.now filed.now name.new text.new answers.new values.new held.new) b result }
 {
-    let name_at = t * NAME;
-    let name_end = name_at + NAME;
-    let text_at = t * TEXT;
-    let text_end = text_at + TEXT;
-    let answers_at = t * ANSWERS;
-    let answers_end = answers_at + ANSWERS;
-    let values_at = t * VALUES;
-    let values_end = values_at + VALUES;
-    let held_at = t * WIDTH;
-    let held_end = held_at + WIDTH;
     hear_fault(
         all,
         names,
@@ -155,11 +125,11 @@ pub fn seat_fault(
         lens,
         plans,
         filed,
-        &mut name[name_at..name_end],
-        &mut text[text_at..text_end],
-        &mut answers[answers_at..answers_end],
-        &mut values[values_at..values_end],
-        &mut held[held_at..held_end],
+        &mut name[t * NAME..t * NAME + NAME],
+        &mut text[t * TEXT..t * TEXT + TEXT],
+        &mut answers[t * ANSWERS..t * ANSWERS + ANSWERS],
+        &mut values[t * VALUES..t * VALUES + VALUES],
+        &mut held[t * WIDTH..t * WIDTH + WIDTH],
         n,
     )
 }
@@ -183,16 +153,6 @@ pub fn take_seat(
     requires { Sits (memory_of all.now names.now texts.now lens.now plans.now filed.now name.old text.old answers.old values.old held.old) t }
     ensures { SeatTakes (memory_of all.now names.now texts.now lens.now plans.now filed.now name.old text.old answers.old values.old held.old) t set.old (memory_of all.now names.now texts.now lens.now plans.now filed.now name.new text.new answers.new values.new held.new) set.new result }
 {
-    let name_at = t * NAME;
-    let name_end = name_at + NAME;
-    let text_at = t * TEXT;
-    let text_end = text_at + TEXT;
-    let answers_at = t * ANSWERS;
-    let answers_end = answers_at + ANSWERS;
-    let values_at = t * VALUES;
-    let values_end = values_at + VALUES;
-    let held_at = t * WIDTH;
-    let held_end = held_at + WIDTH;
     take(
         all,
         names,
@@ -200,11 +160,11 @@ pub fn take_seat(
         lens,
         plans,
         filed,
-        &mut name[name_at..name_end],
-        &mut text[text_at..text_end],
-        &mut answers[answers_at..answers_end],
-        &mut values[values_at..values_end],
-        &mut held[held_at..held_end],
+        &mut name[t * NAME..t * NAME + NAME],
+        &mut text[t * TEXT..t * TEXT + TEXT],
+        &mut answers[t * ANSWERS..t * ANSWERS + ANSWERS],
+        &mut values[t * VALUES..t * VALUES + VALUES],
+        &mut held[t * WIDTH..t * WIDTH + WIDTH],
         set,
     )
 }

@@ -4,7 +4,6 @@ use mathlib.Core.Path.{◌≡◌, refl, sym, ◌∙◌}
 use mathlib.Core.Bool.{Bool, true, false}
 use mathlib.Core.List.{List, [], ◌∷◌}
 use native.Mathlib.Omega.{arith}
-use native.Mathlib.Numerals.{add-one}
 use lib.ListN.{length, take, drop, get_or, drop_of_length-le, take-append-drop}
 use lib.Seq.{drop-cons, take-length}
 use borrow.Author.Tests.{le-leb, lt-leb, lt-ltb}
@@ -16,23 +15,24 @@ use Rattle.paper.proofs.Text.{control_behind}
 use Rattle.text.specs.Place.{from}
 use Rattle.line.specs.Shown.{clear_part}
 
--- the walk over a text's bytes: one more is shown
-pub clear_turns : (text : List ℕ) (at i : ℕ) → at + length (clear_part (from text at)) ≡ i + length (clear_part (from text i)) → i < length text → 32 ≤ get_or text i 0 → get_or text i 0 < 256 → at + length (clear_part (from text at)) ≡ i + 1 + length (clear_part (from text (i + 1)))
+-- the clear part from a byte on: a shown byte is one more of it
+pub clear_turns : (text : List ℕ) (i : ℕ) → i < length text → 32 ≤ get_or text i 0 → get_or text i 0 < 256 → length (clear_part (from text i)) ≡ 1 + length (clear_part (from text (i + 1)))
 unfolding clear_part from is_shown between when◌then◌else◌
-clear_turns text at i e h low high =
-    e ∙ rw (drop-cons text i 0 h, add-one, le-leb 32 (get_or text i 0) low, le-leb (get_or text i 0) 255 (omega arith)) (omega arith)
+clear_turns text i h low high =
+    let next : i + 1 ≡ suc i = omega arith in
+    rw (next, drop-cons text i 0 h, le-leb 32 (get_or text i 0) low, le-leb (get_or text i 0) 255 (omega arith)) (omega arith)
 
 -- a byte below 20H ends it
-pub clear_here : (text : List ℕ) (at i : ℕ) → at + length (clear_part (from text at)) ≡ i + length (clear_part (from text i)) → i < length text → get_or text i 0 < 32 → i ≡ at + length (clear_part (from text at))
+pub clear_here : (text : List ℕ) (i : ℕ) → i < length text → get_or text i 0 < 32 → length (clear_part (from text i)) ≡ 0
 unfolding clear_part from is_shown between when◌then◌else◌
-clear_here text at i e h low = sym (e ∙ rw (drop-cons text i 0 h, lt-leb 32 (get_or text i 0) low) (omega arith))
+clear_here text i h low = rw (drop-cons text i 0 h, lt-leb 32 (get_or text i 0) low)
 
 -- and so does the end of the text
-pub clear_none : (text : List ℕ) (at i : ℕ) → at + length (clear_part (from text at)) ≡ i + length (clear_part (from text i)) → length text ≤ i → i ≡ at + length (clear_part (from text at))
+pub clear_none : (text : List ℕ) (i : ℕ) → length text ≤ i → length (clear_part (from text i)) ≡ 0
 unfolding clear_part from
-clear_none text at i e h = sym (e ∙ rw (drop_of_length-le text {i = i} h) (omega arith))
+clear_none text i h = rw (drop_of_length-le text {i = i} h)
 
--- all before it are shown
+-- all bytes of it are shown
 pub clear_shown : (s : List ℕ) → every is_shown (clear_part s) ≡ true
 unfolding clear_part every when◌then◌else◌
 clear_shown [] = refl

@@ -3,7 +3,6 @@ pub mod Letters
 pub mod Chain
 pub mod Item
 pub mod Given
-pub mod Family
 pub mod Whole
 pub mod Filing
 pub mod Unique

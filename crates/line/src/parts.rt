@@ -1,222 +1,190 @@
 // The parts of a line that only some commands have: settings, steps, values, contents and strings that end the line.
-ghost use Rattle.std.specs.Prelude.{◌≡◌};
+#![tactic(auto, using(crate::proofs::Item::parts), unfolding(paper::specs::Read::setting, paper::specs::Line::part, paper::specs::Line::followed, paper::specs::Line::give, text::specs::Place::said, text::specs::Place::said_by, text::specs::Place::with_comma, command::specs::View::setting_of, command::specs::View::step_of, crate::specs::Part::value_of, crate::specs::Part::Found, crate::specs::Part::LastAt))]
+
+ghost use Rattle.std.specs.Prelude.{◌≡◌, ℕ, List};
 ghost use Rattle.paper.specs.Line.{number, letter, digit, two_digits, part};
+ghost use Rattle.paper.specs.Command as P;
+ghost use Rattle.paper.specs.Read as Read;
 ghost use Rattle.paper.specs.Read.{font, setting, step, value, content};
-ghost use Rattle.text.specs.Place.{from, Says};
-ghost use Rattle.line.specs.Part.{said_setting, look, said_step, said_value, ReadsContent, LastAt};
+ghost use Rattle.text.specs.Place.{from, said_by, Says};
+ghost use Rattle.command.specs.View.{setting_of, step_of, text_in, content_of, Standing, ContentStands};
+ghost use Rattle.line.specs.Part.{value_of, ReadsContent, LastAt};
 
 use command::{Content, Setting, Step};
 use text::read::{
-    Number, Quoted, byte_at, comma_after, digit_at, font_at, letter_at, number_at, string_at,
+    Parsed, Span, byte_at, comma_after, digit_at, font_at, letter_at, number_at, string_at,
     two_digits_at,
 };
 
 // A number with the comma behind it.
-pub fn number_part(s: &[u8], at: usize) -> Number
+pub fn number_part(s: &[u8], at: usize) -> Option<Parsed<usize>>
     ensures { Says s.now (part number (from s.now at)) result }
 {
     comma_after(s, number_at(s, at))
 }
 
 // A letter with the comma behind it.
-pub fn letter_part(s: &[u8], at: usize) -> Number
+pub fn letter_part(s: &[u8], at: usize) -> Option<Parsed<usize>>
     ensures { Says s.now (part letter (from s.now at)) result }
 {
     comma_after(s, letter_at(s, at))
 }
 
 // A font with the comma behind it.
-pub fn font_part(s: &[u8], at: usize) -> Number
+pub fn font_part(s: &[u8], at: usize) -> Option<Parsed<usize>>
     ensures { Says s.now (part font (from s.now at)) result }
 {
     comma_after(s, font_at(s, at))
 }
 
 // A digit with the comma behind it.
-pub fn digit_part(s: &[u8], at: usize) -> Number
+pub fn digit_part(s: &[u8], at: usize) -> Option<Parsed<usize>>
     ensures { Says s.now (part digit (from s.now at)) result }
 {
     comma_after(s, digit_at(s, at))
 }
 
 // Two digits with the comma behind them.
-pub fn two_digits_part(s: &[u8], at: usize) -> Number
+pub fn two_digits_part(s: &[u8], at: usize) -> Option<Parsed<usize>>
     ensures { Says s.now (part two_digits (from s.now at)) result }
 {
     comma_after(s, two_digits_at(s, at))
 }
 
-// A setting that was read and the place behind it, or that none stands there.
-#[derive(Clone, Copy)]
-pub enum SettingRead {
-    Value { setting: Setting, next: usize },
-    Bad,
-}
-
 // The seven parameters of a text before its content.
-pub fn setting_at(s: &[u8], at: usize) -> SettingRead
-    ensures { said_setting s.now result ≡ setting (from s.now at) }
+pub fn setting_at(s: &[u8], at: usize) -> Option<Parsed<Setting>>
+    ensures { said_by setting_of s.now result ≡ setting (from s.now at) }
 {
-    let Number::Value { n: x, next: a } = number_part(s, at) else {
-        return SettingRead::Bad;
-    };
-    let Number::Value { n: y, next: b } = number_part(s, a) else {
-        return SettingRead::Bad;
-    };
-    let Number::Value { n: r, next: c } = number_part(s, b) else {
-        return SettingRead::Bad;
-    };
-    look_at(s, c, x, y, r)
+    let x = number_part(s, at)?;
+    let y = number_part(s, x.next)?;
+    let r = number_part(s, y.next)?;
+    let f = font_part(s, r.next)?;
+    let h = number_part(s, f.next)?;
+    let v = number_part(s, h.next)?;
+    let m = letter_part(s, v.next)?;
+    Some(Parsed {
+        value: Setting {
+            x: x.value,
+            y: y.value,
+            r: r.value,
+            f: f.value,
+            h: h.value,
+            v: v.value,
+            m: m.value,
+        },
+        next: m.next,
+    })
 }
 
-// The last four of them, behind a place and a turn.
-fn look_at(s: &[u8], at: usize, x: usize, y: usize, r: usize) -> SettingRead
-    ensures { said_setting s.now result ≡ look x y r (from s.now at) }
+// A step by its sign and its number; `-0` is `+0`.
+fn signed(sign: u8, n: usize) -> Step
+    ensures { step_of result ≡ Read.step_of sign n }
 {
-    let Number::Value { n: f, next: a } = font_part(s, at) else {
-        return SettingRead::Bad;
-    };
-    let Number::Value { n: h, next: b } = number_part(s, a) else {
-        return SettingRead::Bad;
-    };
-    let Number::Value { n: v, next: c } = number_part(s, b) else {
-        return SettingRead::Bad;
-    };
-    let Number::Value { n: m, next } = letter_part(s, c) else {
-        return SettingRead::Bad;
-    };
-    let setting = Setting {
-        x,
-        y,
-        r,
-        f,
-        h,
-        v,
-        m,
-    };
-    SettingRead::Value { setting, next }
-}
-
-// A step that was read and the place behind it, or that none stands there.
-#[derive(Clone, Copy)]
-pub enum StepRead {
-    Value { step: Step, next: usize },
-    Bad,
+    if n == 0 || sign == b'+' {
+        Step::Up { n }
+    } else {
+        Step::Down { n }
+    }
 }
 
 // A step, with the comma behind it.
-pub fn step_part(s: &[u8], at: usize) -> StepRead
-    ensures { said_step s.now result ≡ part step (from s.now at) }
+pub fn step_part(s: &[u8], at: usize) -> Option<Parsed<Step>>
+    ensures { said_by step_of s.now result ≡ part step (from s.now at) }
 {
     let sign = byte_at(s, at);
-    if sign == 43 {
-        let Number::Value { n, next } = number_part(s, at + 1) else {
-            return StepRead::Bad;
-        };
-        return StepRead::Value {
-            step: Step::Up { n },
-            next,
-        };
+    if !matches!(sign, b'+' | b'-') {
+        return None;
     }
-    if sign == 45 {
-        let Number::Value { n, next } = number_part(s, at + 1) else {
-            return StepRead::Bad;
-        };
-        if n == 0 {
-            return StepRead::Value {
-                step: Step::Up { n: 0 },
-                next,
-            };
-        }
-        return StepRead::Value {
-            step: Step::Down { n },
-            next,
-        };
-    }
-    StepRead::Bad
+    let number = number_part(s, at + 1)?;
+    Some(Parsed {
+        value: signed(sign, number.value),
+        next: number.next,
+    })
 }
 
-// A value that was read and the place behind it, or that none stands there.
-#[derive(Clone, Copy)]
-pub enum ValueRead {
-    Counter { n: usize, next: usize },
-    Variable { n: usize, next: usize },
-    Bad,
+// What a label shows in the place of a value: a counter or a variable.
+#[derive(Clone, Copy, Debug, PartialEq, Eq)]
+pub enum Value {
+    Counter { n: usize },
+    Variable { n: usize },
 }
 
 // A value by its number.
-pub fn value_at(s: &[u8], at: usize) -> ValueRead
-    ensures { said_value s.now result ≡ value (from s.now at) }
+pub fn value_at(s: &[u8], at: usize) -> Option<Parsed<Value>>
+    ensures { said_by value_of s.now result ≡ value (from s.now at) }
 {
-    let b = byte_at(s, at);
-    if b == 67 {
-        let Number::Value { n, next } = digit_at(s, at + 1) else {
-            return ValueRead::Bad;
-        };
-        return ValueRead::Counter { n, next };
+    match byte_at(s, at) {
+        b'C' => {
+            let Parsed { value: n, next } = digit_at(s, at + 1)?;
+            Some(Parsed {
+                value: Value::Counter { n },
+                next,
+            })
+        }
+        b'V' => {
+            let Parsed { value: n, next } = two_digits_at(s, at + 1)?;
+            Some(Parsed {
+                value: Value::Variable { n },
+                next,
+            })
+        }
+        _ => None,
     }
-    if b == 86 {
-        let Number::Value { n, next } = two_digits_at(s, at + 1) else {
-            return ValueRead::Bad;
-        };
-        return ValueRead::Variable { n, next };
-    }
-    ValueRead::Bad
 }
 
-// A content that was read and the place behind it, or that none stands there.
-#[derive(Clone, Copy)]
-pub enum ContentRead {
-    Value { content: Content, next: usize },
-    Bad,
+// A value as the whole content of a text.
+#[tactic(auto, unfolding(command::specs::View::content_of, command::specs::View::ContentStands, crate::specs::Part::value_of))]
+fn shown(value: Value) -> Content
+    ensures content { (s : List ℕ) → content_of s result ≡ P.shown (value_of value) }
+    ensures stands { (s : List ℕ) → ContentStands s result }
+{
+    match value {
+        Value::Counter { n } => Content::Counter { n },
+        Value::Variable { n } => Content::Variable { n },
+    }
+}
+
+// A string and a value as a content.
+#[tactic(auto, unfolding(command::specs::View::content_of, command::specs::View::ContentStands, crate::specs::Part::value_of))]
+fn joined(string: Span, value: Value) -> Content
+    ensures content { (s : List ℕ) → content_of s result ≡ P.joined (text_in s string) (value_of value) }
+    ensures stands { (s : List ℕ) → Standing s string → ContentStands s result }
+{
+    match value {
+        Value::Counter { n } => Content::TextCounter { string, n },
+        Value::Variable { n } => Content::TextVariable { string, n },
+    }
 }
 
 // The content of a text.
-pub fn content_at(s: &[u8], at: usize) -> ContentRead
+pub fn content_at(s: &[u8], at: usize) -> Option<Parsed<Content>>
     ensures { ReadsContent s.now (content (from s.now at)) result }
 {
-    let Quoted::Held { span } = string_at(s, at) else {
-        return match value_at(s, at) {
-            ValueRead::Counter { n, next } => ContentRead::Value {
-                content: Content::Counter { n },
-                next,
-            },
-            ValueRead::Variable { n, next } => ContentRead::Value {
-                content: Content::Variable { n },
-                next,
-            },
-            ValueRead::Bad => ContentRead::Bad,
-        };
+    let Some(string) = string_at(s, at) else {
+        let Parsed { value, next } = value_at(s, at)?;
+        return Some(Parsed {
+            value: shown(value),
+            next,
+        });
     };
-    let after = span.end + 1;
-    if s.len() <= after {
-        return ContentRead::Value {
-            content: Content::Text { string: span },
-            next: after,
-        };
-    }
-    match value_at(s, after) {
-        ValueRead::Counter { n, next } => ContentRead::Value {
-            content: Content::TextCounter { string: span, n },
+    let next = string.end + 1;
+    if s.len() <= next {
+        return Some(Parsed {
+            value: Content::Text { string },
             next,
-        },
-        ValueRead::Variable { n, next } => ContentRead::Value {
-            content: Content::TextVariable { string: span, n },
-            next,
-        },
-        ValueRead::Bad => ContentRead::Bad,
+        });
     }
+    let Parsed { value, next } = value_at(s, next)?;
+    Some(Parsed {
+        value: joined(string, value),
+        next,
+    })
 }
 
 // A string that ends the line.
-pub fn last_string(s: &[u8], at: usize) -> Quoted
+pub fn last_string(s: &[u8], at: usize) -> Option<Span>
     ensures { LastAt s.now at result }
 {
-    let Quoted::Held { span } = string_at(s, at) else {
-        return Quoted::Missing;
-    };
-    if span.end + 1 < s.len() {
-        return Quoted::Missing;
-    }
-    Quoted::Held { span }
+    let span = string_at(s, at)?;
+    (s.len() <= span.end + 1).then_some(span)
 }

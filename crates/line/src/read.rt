@@ -1,313 +1,178 @@
 // Reading a line.
-ghost use Rattle.std.specs.Prelude.{ℕ, ◌≤◌, ◌≡◌, true, List, length};
+#![tactic(auto, using(crate::proofs::Given::lines), unfolding(paper::specs::Read::size_line, paper::specs::Read::direction_line, paper::specs::Read::text_line, paper::specs::Read::bar_line, paper::specs::Read::frame_line, paper::specs::Read::counter_line, paper::specs::Read::variable_line, paper::specs::Read::name_line, paper::specs::Read::print_line, paper::specs::Read::body_shape, paper::specs::Read::judged, paper::specs::Line::followed, text::specs::Place::said, text::specs::Place::said_by, command::specs::View::view_of, command::specs::View::command_of, command::specs::View::put_of, command::specs::View::bar_of, command::specs::View::refusal_of, command::specs::View::Stand, command::specs::View::CommandStands, crate::specs::Family::under, crate::specs::Family::drawn))]
+
+ghost use Rattle.std.specs.Prelude.{◌≤◌, ◌<◌, ◌≡◌, true, length, MatchResult, Ok, Err, if◌then◌else◌};
 ghost use Rattle.paper.specs.Byte.{every};
-ghost use Rattle.paper.specs.Line.{ended, got};
+ghost use Rattle.paper.specs.Line.{ended};
 ghost use Rattle.paper.specs.Command as P;
 ghost use Rattle.paper.specs.Command.{is_shown, in_range};
-ghost use Rattle.paper.specs.Read.{command, size_line, direction_line, text_line, bar_line, frame_line, counter_line, variable_line, name_line, print_line, shape};
+ghost use Rattle.paper.specs.Read.{size_line, direction_line, text_line, bar_line, frame_line, counter_line, variable_line, name_line, print_line, judged, shaped};
 ghost use Rattle.text.specs.Place.{from};
-ghost use Rattle.command.specs.View.{width, view_of, Stand};
-ghost use Rattle.line.specs.Part.{stepped};
+ghost use Rattle.command.specs.View.{width, text_in, command_of, view_of, Standing, CommandStands, Stand};
+ghost use Rattle.command.specs.declared.Refusal.TheVariants.{Malformed, OutOfRange};
 ghost use Rattle.line.specs.Given.{Gives, Judges, IsRead};
 ghost use Rattle.line.specs.Kind.{shape_by};
-ghost use Rattle.line.specs.Family.{pen_of, drawn, filing, sent, starred};
+ghost use Rattle.line.specs.Family.{under, filing};
 
 use crate::clear::is_clear;
 use crate::kind::{Kind, kind_of};
 use crate::parts::{
-    ContentRead, SettingRead, StepRead, content_at, digit_part, last_string, letter_part,
-    number_part, setting_at, step_part, two_digits_part,
+    content_at, digit_part, last_string, letter_part, number_part, setting_at, step_part,
+    two_digits_part,
 };
 use command::range::{
     bar_in, content_in, counting_in, direction_in, frame_in, is_star, name_in, print_in,
     setting_in, size_in, varying_in,
 };
 use command::{Bar, Command, Put, Refusal};
-use text::read::{Number, Quoted, Span, byte_at, letter_at, number_at};
+use text::read::{Parsed, Span, byte_at, letter_at, number_at};
 
 // The longest line.
 pub const LINE: usize = 256;
 
-// A command that is all letters: nothing may follow them.
-fn bare(s: &[u8], at: usize, c: Command) -> Command
-    ensures { (p : P.Command) → view_of s.now c ≡ command p → in_range width p ≡ true → Stand s.now c → Gives s.now (ended p (from s.now at)) result }
+// Nothing may follow the last part of a line.
+fn ended(s: &[u8], at: usize) -> Result<(), Refusal>
+    ensures { MatchResult result (λ _. length s.now ≤ at) (λ why. (why ≡ Malformed) × (at < length s.now)) }
 {
     if at < s.len() {
-        return Command::Refused {
-            why: Refusal::Malformed,
-        };
+        return Err(Refusal::Malformed);
     }
-    c
+    Ok(())
+}
+
+// What fits, by whether it is in its ranges.
+fn ranged<T: Copy>(ok: bool, value: T) -> Result<T, Refusal>
+    ensures { result ≡ (if ok then Ok value else Err OutOfRange) }
+{
+    if ok {
+        Ok(value)
+    } else {
+        Err(Refusal::OutOfRange)
+    }
+}
+
+// A command that is all letters: nothing may follow them.
+fn bare(s: &[u8], at: usize, c: Command) -> Result<Command, Refusal>
+    ensures { in_range width (command_of s.now c) ≡ true → CommandStands s.now c → Gives s.now (ended (command_of s.now c) (from s.now at)) result }
+{
+    ended(s, at)?;
+    Ok(c)
 }
 
 // A label's two lengths.
-fn size_line(s: &[u8]) -> Command
+fn size_line(s: &[u8]) -> Result<Command, Refusal>
     ensures { Gives s.now (size_line (from s.now 1)) result }
 {
-    let Number::Value { n: p1, next: a } = number_part(s, 1) else {
-        return Command::Refused {
-            why: Refusal::Malformed,
-        };
-    };
-    let Number::Value { n: p2, next: end } = number_at(s, a) else {
-        return Command::Refused {
-            why: Refusal::Malformed,
-        };
-    };
-    if end < s.len() {
-        return Command::Refused {
-            why: Refusal::Malformed,
-        };
-    }
-    if size_in(p1, p2) {
-        return Command::Size { p1, p2 };
-    }
-    Command::Refused {
-        why: Refusal::OutOfRange,
-    }
+    let Parsed { value: p1, next } = number_part(s, 1).ok_or(Refusal::Malformed)?;
+    let Parsed { value: p2, next } = number_at(s, next).ok_or(Refusal::Malformed)?;
+    ended(s, next)?;
+    ranged(size_in(p1, p2), Command::Size { p1, p2 })
 }
 
 // A label's direction.
-fn direction_line(s: &[u8]) -> Command
+fn direction_line(s: &[u8]) -> Result<Command, Refusal>
     ensures { Gives s.now (direction_line (from s.now 1)) result }
 {
-    let Number::Value { n: d, next: end } = letter_at(s, 1) else {
-        return Command::Refused {
-            why: Refusal::Malformed,
-        };
-    };
-    if end < s.len() {
-        return Command::Refused {
-            why: Refusal::Malformed,
-        };
-    }
-    if direction_in(d) {
-        return Command::Direction { d };
-    }
-    Command::Refused {
-        why: Refusal::OutOfRange,
-    }
+    let Parsed { value: d, next } = letter_at(s, 1).ok_or(Refusal::Malformed)?;
+    ended(s, next)?;
+    ranged(direction_in(d), Command::Direction { d })
 }
 
 // A text: its setting and its content.
-fn text_line(s: &[u8]) -> Command
+fn text_line(s: &[u8]) -> Result<Command, Refusal>
     requires { every is_shown s.now ≡ true }
     ensures { Gives s.now (text_line (from s.now 1)) result }
 {
-    let SettingRead::Value { setting, next } = setting_at(s, 1) else {
-        return Command::Refused {
-            why: Refusal::Malformed,
-        };
-    };
-    let ContentRead::Value { content, next: end } = content_at(s, next) else {
-        return Command::Refused {
-            why: Refusal::Malformed,
-        };
-    };
-    if end < s.len() {
-        return Command::Refused {
-            why: Refusal::Malformed,
-        };
-    }
-    if setting_in(setting) {
-        if content_in(content) {
-            let put = Put { setting, content };
-            return Command::Text { put };
-        }
-        return Command::Refused {
-            why: Refusal::OutOfRange,
-        };
-    }
-    Command::Refused {
-        why: Refusal::OutOfRange,
-    }
-}
-
-// What an `L` line does to the dots under it.
-#[derive(Clone, Copy)]
-enum Pen {
-    Black,
-    Flip,
-    White,
+    let Parsed {
+        value: setting,
+        next,
+    } = setting_at(s, 1).ok_or(Refusal::Malformed)?;
+    let Parsed {
+        value: content,
+        next,
+    } = content_at(s, next).ok_or(Refusal::Malformed)?;
+    ended(s, next)?;
+    let put = Put { setting, content };
+    ranged(
+        setting_in(setting) && content_in(content),
+        Command::Text { put },
+    )
 }
 
 // A bar: its place and its size.
-fn bar_line(s: &[u8], pen: Pen) -> Command
-    ensures { Gives s.now (bar_line (pen_of pen) (from s.now 2)) result }
+fn bar_line(s: &[u8]) -> Result<Bar, Refusal>
+    ensures { (pen : P.Pen) → Gives s.now (bar_line pen (from s.now 2)) (under pen result) }
 {
-    let Number::Value { n: x, next: a } = number_part(s, 2) else {
-        return Command::Refused {
-            why: Refusal::Malformed,
-        };
-    };
-    let Number::Value { n: y, next: b } = number_part(s, a) else {
-        return Command::Refused {
-            why: Refusal::Malformed,
-        };
-    };
-    let Number::Value { n: w, next: c } = number_part(s, b) else {
-        return Command::Refused {
-            why: Refusal::Malformed,
-        };
-    };
-    let Number::Value { n: t, next: end } = number_at(s, c) else {
-        return Command::Refused {
-            why: Refusal::Malformed,
-        };
-    };
-    if end < s.len() {
-        return Command::Refused {
-            why: Refusal::Malformed,
-        };
-    }
+    let Parsed { value: x, next } = number_part(s, 2).ok_or(Refusal::Malformed)?;
+    let Parsed { value: y, next } = number_part(s, next).ok_or(Refusal::Malformed)?;
+    let Parsed { value: w, next } = number_part(s, next).ok_or(Refusal::Malformed)?;
+    let Parsed { value: t, next } = number_at(s, next).ok_or(Refusal::Malformed)?;
+    ended(s, next)?;
     let bar = Bar { x, y, w, t };
-    if bar_in(bar) {
-        return draw_with(pen, bar);
-    }
-    Command::Refused {
-        why: Refusal::OutOfRange,
-    }
-}
-
-// A bar under its pen.
-fn draw_with(pen: Pen, bar: Bar) -> Command
-    ensures { result ≡ drawn pen bar }
-{
-    match pen {
-        Pen::Black => Command::Black { bar },
-        Pen::Flip => Command::Flip { bar },
-        Pen::White => Command::White { bar },
-    }
+    ranged(bar_in(bar), bar)
 }
 
 // A frame: two corners and a thickness between.
-fn frame_line(s: &[u8]) -> Command
+fn frame_line(s: &[u8]) -> Result<Command, Refusal>
     ensures { Gives s.now (frame_line (from s.now 1)) result }
 {
-    let Number::Value { n: x1, next: a } = number_part(s, 1) else {
-        return Command::Refused {
-            why: Refusal::Malformed,
-        };
-    };
-    let Number::Value { n: y1, next: b } = number_part(s, a) else {
-        return Command::Refused {
-            why: Refusal::Malformed,
-        };
-    };
-    let Number::Value { n: t, next: c } = number_part(s, b) else {
-        return Command::Refused {
-            why: Refusal::Malformed,
-        };
-    };
-    let Number::Value { n: x2, next: d } = number_part(s, c) else {
-        return Command::Refused {
-            why: Refusal::Malformed,
-        };
-    };
-    let Number::Value { n: y2, next: end } = number_at(s, d) else {
-        return Command::Refused {
-            why: Refusal::Malformed,
-        };
-    };
-    if end < s.len() {
-        return Command::Refused {
-            why: Refusal::Malformed,
-        };
-    }
-    if frame_in(x1, y1, t, x2, y2) {
-        return Command::Frame { x1, y1, t, x2, y2 };
-    }
-    Command::Refused {
-        why: Refusal::OutOfRange,
-    }
+    let Parsed { value: x1, next } = number_part(s, 1).ok_or(Refusal::Malformed)?;
+    let Parsed { value: y1, next } = number_part(s, next).ok_or(Refusal::Malformed)?;
+    let Parsed { value: t, next } = number_part(s, next).ok_or(Refusal::Malformed)?;
+    let Parsed { value: x2, next } = number_part(s, next).ok_or(Refusal::Malformed)?;
+    let Parsed { value: y2, next } = number_at(s, next).ok_or(Refusal::Malformed)?;
+    ended(s, next)?;
+    ranged(
+        frame_in(x1, y1, t, x2, y2),
+        Command::Frame { x1, y1, t, x2, y2 },
+    )
 }
 
 // A counter to be asked for.
-fn counter_line(s: &[u8]) -> Command
+fn counter_line(s: &[u8]) -> Result<Command, Refusal>
     requires { every is_shown s.now ≡ true }
     ensures { Gives s.now (counter_line (from s.now 1)) result }
 {
-    let Number::Value { n, next: a } = digit_part(s, 1) else {
-        return Command::Refused {
-            why: Refusal::Malformed,
-        };
-    };
-    let Number::Value { n: len, next: b } = number_part(s, a) else {
-        return Command::Refused {
-            why: Refusal::Malformed,
-        };
-    };
-    let Number::Value { n: letter, next: c } = letter_part(s, b) else {
-        return Command::Refused {
-            why: Refusal::Malformed,
-        };
-    };
-    stepped_line(s, c, n, len, letter)
-}
-
-// The step and the prompt behind a counter's first three parameters.
-fn stepped_line(s: &[u8], at: usize, n: usize, len: usize, letter: usize) -> Command
-    requires { every is_shown s.now ≡ true }
-    ensures { Gives s.now (stepped n len letter (from s.now at)) result }
-{
-    let StepRead::Value { step, next } = step_part(s, at) else {
-        return Command::Refused {
-            why: Refusal::Malformed,
-        };
-    };
-    let Quoted::Held { span: prompt } = last_string(s, next) else {
-        return Command::Refused {
-            why: Refusal::Malformed,
-        };
-    };
-    if counting_in(n, len, letter, step, prompt) {
-        return Command::Counting {
+    let Parsed { value: n, next } = digit_part(s, 1).ok_or(Refusal::Malformed)?;
+    let Parsed { value: len, next } = number_part(s, next).ok_or(Refusal::Malformed)?;
+    let Parsed {
+        value: letter,
+        next,
+    } = letter_part(s, next).ok_or(Refusal::Malformed)?;
+    let Parsed { value: step, next } = step_part(s, next).ok_or(Refusal::Malformed)?;
+    let prompt = last_string(s, next).ok_or(Refusal::Malformed)?;
+    ranged(
+        counting_in(n, len, letter, step, prompt),
+        Command::Counting {
             n,
             len,
             step,
             prompt,
-        };
-    }
-    Command::Refused {
-        why: Refusal::OutOfRange,
-    }
+        },
+    )
 }
 
 // A variable to be asked for.
-fn variable_line(s: &[u8]) -> Command
+fn variable_line(s: &[u8]) -> Result<Command, Refusal>
     requires { every is_shown s.now ≡ true }
     ensures { Gives s.now (variable_line (from s.now 1)) result }
 {
-    let Number::Value { n, next: a } = two_digits_part(s, 1) else {
-        return Command::Refused {
-            why: Refusal::Malformed,
-        };
-    };
-    let Number::Value { n: len, next: b } = number_part(s, a) else {
-        return Command::Refused {
-            why: Refusal::Malformed,
-        };
-    };
-    let Number::Value { n: letter, next: c } = letter_part(s, b) else {
-        return Command::Refused {
-            why: Refusal::Malformed,
-        };
-    };
-    let Quoted::Held { span: prompt } = last_string(s, c) else {
-        return Command::Refused {
-            why: Refusal::Malformed,
-        };
-    };
-    if varying_in(n, len, letter, prompt) {
-        return Command::Varying { n, len, prompt };
-    }
-    Command::Refused {
-        why: Refusal::OutOfRange,
-    }
+    let Parsed { value: n, next } = two_digits_part(s, 1).ok_or(Refusal::Malformed)?;
+    let Parsed { value: len, next } = number_part(s, next).ok_or(Refusal::Malformed)?;
+    let Parsed {
+        value: letter,
+        next,
+    } = letter_part(s, next).ok_or(Refusal::Malformed)?;
+    let prompt = last_string(s, next).ok_or(Refusal::Malformed)?;
+    ranged(
+        varying_in(n, len, letter, prompt),
+        Command::Varying { n, len, prompt },
+    )
 }
 
 // What a line does with its name.
-#[derive(Clone, Copy)]
+// Kept: the promise of `name_line`, which is public, is about an errand.
+#[derive(Clone, Copy, Debug, PartialEq, Eq)]
 pub enum Errand {
     Start,
     Recall,
@@ -315,99 +180,52 @@ pub enum Errand {
 }
 
 // A name that ends the line, or the star.
-pub fn name_line(s: &[u8], errand: Errand) -> Command
+pub fn name_line(s: &[u8], errand: Errand) -> Result<Command, Refusal>
     ensures { Gives s.now (name_line (filing errand) (from s.now 2)) result }
 {
-    let Quoted::Held { span: name } = last_string(s, 2) else {
-        return Command::Refused {
-            why: Refusal::Malformed,
-        };
-    };
-    if name_in(s, name) {
-        return send(errand, name);
-    }
-    if is_star(s, name) {
-        return send_star(errand, name);
-    }
-    Command::Refused {
-        why: Refusal::OutOfRange,
-    }
+    let name = last_string(s, 2).ok_or(Refusal::Malformed)?;
+    send(s, errand, name)
 }
 
-// A name under its errand.
-fn send(errand: Errand, name: Span) -> Command
-    ensures { result ≡ sent errand name }
+// A name under its errand. Only deleting takes the star.
+#[tactic(auto, using(paper::proofs::Law::if_true, paper::proofs::Law::if_false), unfolding(paper::specs::Command::in_range, paper::specs::Command::ranges, paper::specs::Command::filing_ranges, paper::specs::Command::all, paper::specs::Command::all_of, paper::specs::Read::body_shape, paper::specs::Read::judged, command::specs::View::view_of, command::specs::View::command_of, command::specs::View::refusal_of, command::specs::View::Stand, command::specs::View::CommandStands, crate::specs::Family::filing))]
+fn send(s: &[u8], errand: Errand, name: Span) -> Result<Command, Refusal>
+    requires { Standing s.now name }
+    ensures view { view_of s.now result ≡ judged width (shaped (P.file (filing errand (text_in s.now name)))) }
+    ensures stand { Stand s.now result }
 {
     match errand {
-        Errand::Start => Command::Start { name },
-        Errand::Recall => Command::Recall { name },
-        Errand::Delete => Command::Delete { name },
-    }
-}
-
-// Only deleting takes the star.
-fn send_star(errand: Errand, name: Span) -> Command
-    ensures { result ≡ starred errand name }
-{
-    match errand {
-        Errand::Start => Command::Refused {
-            why: Refusal::OutOfRange,
-        },
-        Errand::Recall => Command::Refused {
-            why: Refusal::OutOfRange,
-        },
-        Errand::Delete => Command::Delete { name },
+        Errand::Start => ranged(name_in(s, name), Command::Start { name }),
+        Errand::Recall => ranged(name_in(s, name), Command::Recall { name }),
+        Errand::Delete => ranged(
+            name_in(s, name) || is_star(s, name),
+            Command::Delete { name },
+        ),
     }
 }
 
 // A print: its sets, and its copies if they are given.
-fn print_line(s: &[u8]) -> Command
+fn print_line(s: &[u8]) -> Result<Command, Refusal>
     ensures { Gives s.now (print_line (from s.now 1)) result }
 {
-    let Number::Value { n: sets, next: a } = number_at(s, 1) else {
-        return Command::Refused {
-            why: Refusal::Malformed,
-        };
-    };
-    if s.len() <= a {
-        return print_of(sets, 1);
+    let Parsed { value: sets, next } = number_at(s, 1).ok_or(Refusal::Malformed)?;
+    if s.len() <= next {
+        return ranged(print_in(sets, 1), Command::Print { sets, copies: 1 });
     }
-    if byte_at(s, a) != 44 {
-        return Command::Refused {
-            why: Refusal::Malformed,
-        };
+    if byte_at(s, next) != b',' {
+        return Err(Refusal::Malformed);
     }
-    let Number::Value {
-        n: copies,
-        next: end,
-    } = number_at(s, a + 1)
-    else {
-        return Command::Refused {
-            why: Refusal::Malformed,
-        };
-    };
-    if end < s.len() {
-        return Command::Refused {
-            why: Refusal::Malformed,
-        };
-    }
-    print_of(sets, copies)
-}
-
-// Sets and copies within their ranges, whatever line they stand in.
-fn print_of(sets: usize, copies: usize) -> Command
-    ensures { (s x : List ℕ) → Gives s (got (P.print sets copies) x) result }
-{
-    if print_in(sets, copies) {
-        return Command::Print { sets, copies };
-    }
-    Command::Refused {
-        why: Refusal::OutOfRange,
-    }
+    let Parsed {
+        value: copies,
+        next,
+    } = number_at(s, next + 1).ok_or(Refusal::Malformed)?;
+    ended(s, next)?;
+    ranged(print_in(sets, copies), Command::Print { sets, copies })
 }
 
 // What follows the leading letters.
-fn read_kind(s: &[u8], kind: Kind) -> Command
+#[tactic(auto, unfolding(paper::specs::Command::in_range, paper::specs::Command::ranges, paper::specs::Command::filing_ranges, paper::specs::Command::all_of, paper::specs::Read::judged, command::specs::View::view_of, command::specs::View::command_of, command::specs::View::refusal_of, command::specs::View::Stand, command::specs::View::CommandStands, crate::specs::Family::under, crate::specs::Family::drawn, crate::specs::Family::filing, crate::specs::Kind::shape_by))]
+fn read_kind(s: &[u8], kind: Kind) -> Result<Command, Refusal>
     requires { every is_shown s.now ≡ true }
     ensures { Judges s.now (shape_by s.now kind) result }
 {
@@ -419,9 +237,9 @@ fn read_kind(s: &[u8], kind: Kind) -> Command
         Kind::Size => size_line(s),
         Kind::Direction => direction_line(s),
         Kind::Text => text_line(s),
-        Kind::Black => bar_line(s, Pen::Black),
-        Kind::Flip => bar_line(s, Pen::Flip),
-        Kind::White => bar_line(s, Pen::White),
+        Kind::Black => bar_line(s).map(|bar| Command::Black { bar }),
+        Kind::Flip => bar_line(s).map(|bar| Command::Flip { bar }),
+        Kind::White => bar_line(s).map(|bar| Command::White { bar }),
         Kind::Frame => frame_line(s),
         Kind::Counting => counter_line(s),
         Kind::Varying => variable_line(s),
@@ -429,39 +247,34 @@ fn read_kind(s: &[u8], kind: Kind) -> Command
         Kind::Recall => name_line(s, Errand::Recall),
         Kind::Delete => name_line(s, Errand::Delete),
         Kind::Print => print_line(s),
-        Kind::Unknown => Command::Refused {
-            why: Refusal::Unknown,
-        },
+        Kind::Unknown => Err(Refusal::Unknown),
     }
 }
 
 // Reads a line that is not too long and has no control byte.
-pub fn read_clear(s: &[u8]) -> Command
+#[tactic(auto, using(crate::proofs::Whole::read_empty, crate::proofs::Whole::read_shape), unfolding(command::specs::View::view_of, command::specs::View::command_of, command::specs::View::Stand, command::specs::View::CommandStands))]
+pub fn read_clear(s: &[u8]) -> Result<Command, Refusal>
     requires s_value { every is_shown s.now ≡ true }
     requires s_len_bound { length s.now ≤ 256 }
     ensures { IsRead s.now result }
 {
-    if s.len() < 1 {
-        return Command::Empty;
+    if s.is_empty() {
+        return Ok(Command::Empty);
     }
-    let first = byte_at(s, 0);
-    let second = byte_at(s, 1);
-    read_kind(s, kind_of(first, second))
+    let kind = kind_of(byte_at(s, 0), byte_at(s, 1));
+    read_kind(s, kind)
 }
 
 // Reads a line: one command record, or one refusal of 1, 2, 4, 5 and 6.
-pub fn read_line(s: &[u8]) -> Command
+#[tactic(auto, using(crate::proofs::Whole::read_long, crate::proofs::Whole::read_control), unfolding(command::specs::View::view_of, command::specs::View::refusal_of, command::specs::View::Stand))]
+pub fn read_line(s: &[u8]) -> Result<Command, Refusal>
     ensures { IsRead s.now result }
 {
     if LINE < s.len() {
-        return Command::Refused {
-            why: Refusal::TooLong,
-        };
+        return Err(Refusal::TooLong);
     }
-    if is_clear(s) {
-        return read_clear(s);
+    if !is_clear(s) {
+        return Err(Refusal::ControlByte);
     }
-    Command::Refused {
-        why: Refusal::ControlByte,
-    }
+    read_clear(s)
 }

@@ -8,6 +8,7 @@ use lib.ListN.{length, take, length-take}
 use lib.Seq.{take_all}
 use lib.Dec.{eqb}
 use borrow.Author.Tests.{le-ltb, eqb-true, eqb-false}
+use Rattle.std.specs.Prelude.{Result}
 use Rattle.paper.specs.Byte.{every}
 use Rattle.paper.specs.Command.{is_shown}
 use Rattle.paper.specs.Line.{kept, long, control}
@@ -19,7 +20,6 @@ use Rattle.paper.proofs.Text.{clear_between, clear_control}
 use Rattle.paper.proofs.Dropped.{kept_stays, stays_kept, stays_take, kept_clear}
 use Rattle.paper.proofs.Long.{read_first, hear_first}
 use Rattle.command.specs.View.{width}
-use Rattle.command.specs.declared.Answer.{Answer}
 use Rattle.command.specs.declared.Refusal.{Refusal}
 use Rattle.command.specs.declared.Refusal.TheVariants as W
 use Rattle.session.specs.Memory.{Session, Shelf}
@@ -52,7 +52,7 @@ after_waits n fs st s line k w =
 
 module _ (session : Session) (shelf : Shelf) (s line : List ℕ) (n : ℕ) (w : Waits (kept s) line n) where
   -- a line with a control byte among those that are looked at is refused by what can be seen of it
-  pub kept_fault : (b : List ℕ) (answer : Answer) (next : Session) → control (take n line) ≡ true → Refuses (fault_of n) session answer next → Hears session shelf (kept s) b b answer next shelf
+  pub kept_fault : (b : List ℕ) (answer : Result ℕ Refusal) (next : Session) → control (take n line) ≡ true → Refuses (fault_of n) session answer next → Hears session shelf (kept s) b b answer next shelf
   unfolding fault_of
   kept_fault b answer next c r =
       either (eqb n 257)
@@ -63,7 +63,7 @@ module _ (session : Session) (shelf : Shelf) (s line : List ℕ) (n : ℕ) (w : 
       hears_control session shelf (kept s) b answer next (below (kept s) few) (subst (λ x. control x ≡ true) all c) (rw (if_false {A = Refusal} _ W.TooLong W.ControlByte m) at r))
 
 -- nothing is dropped of a line without control bytes
-pub hears_shown : (session : Session) (shelf : Shelf) (s old new : List ℕ) (answer : Answer) (next : Session) (more : Shelf) → every is_shown s ≡ true
+pub hears_shown : (session : Session) (shelf : Shelf) (s old new : List ℕ) (answer : Result ℕ Refusal) (next : Session) (more : Shelf) → every is_shown s ≡ true
     → Hears session shelf s old new answer next more → Hears session shelf (kept s) old new answer next more
 unfolding is_shown
 hears_shown session shelf s old new answer next more e h =

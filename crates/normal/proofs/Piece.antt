@@ -1,7 +1,7 @@
 -- The pieces of a normal form, one behind the other: what writes that meet have written together, and how much room each of them has.
 use mathlib.Core.Path.{◌≡◌, refl, ◌∙◌, ap}
 use mathlib.Core.List.{List, [], ◌∷◌, ◌++◌, append_assoc}
-use Prim.Native.Nat.{ℕ, ◌+◌, ◌≤◌, ◌<◌, ◌%◌}
+use Prim.Native.Nat.{ℕ, ◌+◌, ◌≤◌}
 use native.Mathlib.Omega.{arith}
 use lib.ListN.{length, length-append}
 use Rattle.paper.specs.Byte.{decimal}
@@ -70,10 +70,6 @@ string_ends a i t m j e h d k p q r = byte_then a i 34 m j (escape t ++ (34 ∷ 
 pub setting_then : (a : List ℕ) (i : ℕ) (s : P.Setting) (m : List ℕ) (j : ℕ) (d : List ℕ) (k : ℕ) → Writes a i (commaed (decimal s.x ∷ decimal s.y ∷ decimal s.r ∷ [])) m j → Writes m j (commaed (decimal s.f ∷ decimal s.h ∷ decimal s.v ∷ (s.m ∷ []) ∷ [])) d k → Writes a i (setting_text s) d k
 unfolding setting_text commaed
 setting_then a i s m j d k p q = simp append_assoc at (writes_then a i _ m j _ d k p q)
-
--- a letter of a record is a byte
-pub letter_byte : (a : List ℕ) (i letter : ℕ) (d : List ℕ) (k : ℕ) → letter < 256 → Writes a i ((letter % 256) ∷ []) d k → Writes a i (letter ∷ []) d k
-letter_byte a i letter d k h w = let same : letter % 256 ≡ letter = omega arith in rw same at w
 
 -- writes that meet
 pub ruleset pieces = (byte_then, part_ends, commaed_then, part_then, commas_last, string_ends, setting_then, writes_then)

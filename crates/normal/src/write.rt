@@ -6,8 +6,8 @@ ghost use Rattle.paper.specs.Command.{counter, variable, joined, size, direction
 ghost use Rattle.paper.specs.Write.{commaed, two, value_text, content_text, step_text, setting_text, normal};
 ghost use Rattle.text.specs.Place.{text_at, Closes};
 ghost use Rattle.text.specs.Write.{Writes};
-ghost use Rattle.command.specs.View.{width, text_in, step_of, content_of, setting_of, put_of, view_of};
-ghost use Rattle.normal.specs.Normal.{Room, bar_text, name_text, held_at, shown_at, content_held, content_shown, record_held, readable, reading_text, WritesLine};
+ghost use Rattle.command.specs.View.{width, text_in, step_of, content_of, setting_of, put_of, command_of};
+ghost use Rattle.normal.specs.Normal.{Room, bar_text, name_text, held_at, shown_at, content_held, content_shown, command_held, WritesLine};
 
 use command::range::{
     bar_in, content_in, counting_in, direction_in, frame_in, is_star, name_in, print_in,
@@ -17,13 +17,16 @@ use command::{Answer, Bar, Command, Content, Put, Refusal, Setting, Step};
 use text::read::{Closing, Span, plain_at};
 use text::write::{literal_at, put, put_all, put_content, put_decimal, put_two};
 
+// The first byte that a label shows.
+const SHOWN: u8 = 0x20;
+
 // A number and a comma.
 fn put_part(out: &mut [u8], at: usize, n: usize) -> usize
     requires { Room out.old at (commaed (decimal n ∷ [])) }
     ensures { Writes out.old at (commaed (decimal n ∷ [])) out.new result }
 {
     let comma = put_decimal(out, at, n);
-    put(out, comma, 44)
+    put(out, comma, b',')
 }
 
 // A letter of a record.
@@ -32,7 +35,7 @@ fn put_letter(out: &mut [u8], at: usize, letter: usize) -> usize
     requires letter_bound { letter < 256 }
     ensures { Writes out.old at (letter ∷ []) out.new result }
 {
-    put(out, at, (letter % 256) as u8)
+    put(out, at, letter as u8)
 }
 
 // A letter and a comma.
@@ -42,7 +45,7 @@ fn put_letter_part(out: &mut [u8], at: usize, letter: usize) -> usize
     ensures { Writes out.old at (commaed ((letter ∷ []) ∷ [])) out.new result }
 {
     let next = put_letter(out, at, letter);
-    put(out, next, 44)
+    put(out, next, b',')
 }
 
 // Two digits and a comma.
@@ -52,7 +55,7 @@ fn put_two_part(out: &mut [u8], at: usize, n: usize) -> usize
     ensures { Writes out.old at (commaed (two n ∷ [])) out.new result }
 {
     let next = put_two(out, at, n);
-    put(out, next, 44)
+    put(out, next, b',')
 }
 
 // A string between its quotes.
@@ -61,11 +64,9 @@ fn put_string(out: &mut [u8], at: usize, s: &[u8], string: Span) -> usize
     requires closes { Closes s.now string.start string.end }
     ensures { Writes out.old at (quoted (text_in s.now string)) out.new result }
 {
-    let start = string.start;
-    let end = string.end;
-    let a = put(out, at, 34);
-    let b = put_content(out, a, s, start, end);
-    put(out, b, 34)
+    let a = put(out, at, b'"');
+    let b = put_content(out, a, s, string.start, string.end);
+    put(out, b, b'"')
 }
 
 // A sign or a letter, and a number.
@@ -83,7 +84,7 @@ fn put_variable(out: &mut [u8], at: usize, n: usize) -> usize
     requires n_bound { n < 100 }
     ensures { Writes out.old at (value_text (variable n)) out.new result }
 {
-    let next = put(out, at, 86);
+    let next = put(out, at, b'V');
     put_two(out, next, n)
 }
 
@@ -126,7 +127,7 @@ fn put_string_counter(out: &mut [u8], at: usize, s: &[u8], string: Span, n: usiz
     ensures { Writes out.old at (content_text (joined (text_in s.now string) (counter n))) out.new result }
 {
     let a = put_string(out, at, s, string);
-    put_marked(out, a, 67, n)
+    put_marked(out, a, b'C', n)
 }
 
 // A string and a variable behind it.
@@ -149,7 +150,7 @@ fn put_of(out: &mut [u8], at: usize, s: &[u8], content: Content) -> usize
 {
     match content {
         Content::Text { string } => put_string(out, at, s, string),
-        Content::Counter { n } => put_marked(out, at, 67, n),
+        Content::Counter { n } => put_marked(out, at, b'C', n),
         Content::Variable { n } => put_variable(out, at, n),
         Content::TextCounter { string, n } => put_string_counter(out, at, s, string, n),
         Content::TextVariable { string, n } => put_string_variable(out, at, s, string, n),
@@ -163,11 +164,9 @@ fn put_text(out: &mut [u8], s: &[u8], p: Put) -> usize
     requires p_value { in_range width (put_of s.now p) ≡ true }
     ensures { Writes out.old 0 (normal (put_of s.now p)) out.new result }
 {
-    let setting = p.setting;
-    let content = p.content;
-    let a = put(out, 0, 65);
-    let b = put_setting(out, a, setting);
-    put_of(out, b, s, content)
+    let a = put(out, 0, b'A');
+    let b = put_setting(out, a, p.setting);
+    put_of(out, b, s, p.content)
 }
 
 // A `Q` line.
@@ -175,7 +174,7 @@ fn put_size(out: &mut [u8], p1: usize, p2: usize) -> usize
     requires { Room out.old 0 (normal (keep (draw (size p1 p2)))) }
     ensures { Writes out.old 0 (normal (keep (draw (size p1 p2)))) out.new result }
 {
-    let a = put(out, 0, 81);
+    let a = put(out, 0, b'Q');
     let b = put_part(out, a, p1);
     put_decimal(out, b, p2)
 }
@@ -186,7 +185,7 @@ fn put_direction(out: &mut [u8], d: usize) -> usize
     requires d_bound { d < 256 }
     ensures { Writes out.old 0 (normal (keep (draw (direction d)))) out.new result }
 {
-    let a = put(out, 0, 90);
+    let a = put(out, 0, b'Z');
     put_letter(out, a, d)
 }
 
@@ -204,7 +203,7 @@ fn put_bar(out: &mut [u8], second: u8, bar: Bar) -> usize
     requires { Room out.old 0 (bar_text second bar) }
     ensures { Writes out.old 0 (bar_text second bar) out.new result }
 {
-    let a = put_pair(out, 76, second);
+    let a = put_pair(out, b'L', second);
     let b = put_three(out, a, bar.x, bar.y, bar.w);
     put_decimal(out, b, bar.t)
 }
@@ -214,7 +213,7 @@ fn put_frame(out: &mut [u8], x1: usize, y1: usize, t: usize, x2: usize, y2: usiz
     requires { Room out.old 0 (normal (keep (draw (frame x1 y1 t x2 y2)))) }
     ensures { Writes out.old 0 (normal (keep (draw (frame x1 y1 t x2 y2)))) out.new result }
 {
-    let a = put(out, 0, 88);
+    let a = put(out, 0, b'X');
     let b = put_three(out, a, x1, y1, t);
     let c = put_part(out, b, x2);
     put_decimal(out, c, y2)
@@ -226,8 +225,8 @@ fn put_step(out: &mut [u8], at: usize, step: Step) -> usize
     ensures { Writes out.old at (step_text (step_of step)) out.new result }
 {
     match step {
-        Step::Up { n } => put_marked(out, at, 43, n),
-        Step::Down { n } => put_marked(out, at, 45, n),
+        Step::Up { n } => put_marked(out, at, b'+', n),
+        Step::Down { n } => put_marked(out, at, b'-', n),
     }
 }
 
@@ -237,7 +236,7 @@ fn put_step_part(out: &mut [u8], at: usize, step: Step) -> usize
     ensures { Writes out.old at (commaed (step_text (step_of step) ∷ [])) out.new result }
 {
     let next = put_step(out, at, step);
-    put(out, next, 44)
+    put(out, next, b',')
 }
 
 // A length and the letter `N`, a comma behind each.
@@ -246,7 +245,7 @@ fn put_len(out: &mut [u8], at: usize, len: usize) -> usize
     ensures { Writes out.old at (commaed (decimal len ∷ (78 ∷ []) ∷ [])) out.new result }
 {
     let a = put_part(out, at, len);
-    put_letter_part(out, a, 78)
+    put_letter_part(out, a, b'N' as usize)
 }
 
 // A `C` line up to its step.
@@ -254,7 +253,7 @@ fn put_counter(out: &mut [u8], n: usize, len: usize) -> usize
     requires { Room out.old 0 (67 ∷ commaed (decimal n ∷ decimal len ∷ (78 ∷ []) ∷ [])) }
     ensures { Writes out.old 0 (67 ∷ commaed (decimal n ∷ decimal len ∷ (78 ∷ []) ∷ [])) out.new result }
 {
-    let a = put(out, 0, 67);
+    let a = put(out, 0, b'C');
     let b = put_part(out, a, n);
     put_len(out, b, len)
 }
@@ -276,7 +275,7 @@ fn put_asked(out: &mut [u8], n: usize, len: usize) -> usize
     requires n_bound { n < 100 }
     ensures { Writes out.old 0 (86 ∷ commaed (two n ∷ decimal len ∷ (78 ∷ []) ∷ [])) out.new result }
 {
-    let a = put(out, 0, 86);
+    let a = put(out, 0, b'V');
     let b = put_two_part(out, a, n);
     put_len(out, b, len)
 }
@@ -298,7 +297,7 @@ fn put_name(out: &mut [u8], second: u8, s: &[u8], name: Span) -> usize
     requires closes { Closes s.now name.start name.end }
     ensures { Writes out.old 0 (name_text second (text_in s.now name)) out.new result }
 {
-    let a = put_pair(out, 70, second);
+    let a = put_pair(out, b'F', second);
     put_string(out, a, s, name)
 }
 
@@ -307,7 +306,7 @@ fn put_print(out: &mut [u8], sets: usize, copies: usize) -> usize
     requires { Room out.old 0 (normal (print sets copies)) }
     ensures { Writes out.old 0 (normal (print sets copies)) out.new result }
 {
-    let a = put(out, 0, 80);
+    let a = put(out, 0, b'P');
     let b = put_part(out, a, sets);
     put_decimal(out, b, copies)
 }
@@ -315,22 +314,22 @@ fn put_print(out: &mut [u8], sets: usize, copies: usize) -> usize
 // The normal form of a record of a line, at the front of a buffer with room for the longest; its length.
 pub fn put_normal(out: &mut [u8], s: &[u8], c: Command) -> usize
     requires in_bounds { 256 ≤ length out.old }
-    requires c_value { record_held s.now c ≡ true }
-    requires c_value_2 { readable (view_of s.now c) ≡ true }
-    ensures { Writes out.old 0 (reading_text (view_of s.now c)) out.new result }
+    requires c_value { command_held s.now c ≡ true }
+    requires c_value_2 { in_range width (command_of s.now c) ≡ true }
+    ensures { Writes out.old 0 (normal (command_of s.now c)) out.new result }
 {
     match c {
         Command::Empty => 0,
-        Command::New => put(out, 0, 78),
-        Command::Finish => put_pair(out, 70, 69),
-        Command::Inform => put_pair(out, 70, 73),
-        Command::Ask => put(out, 0, 63),
+        Command::New => put(out, 0, b'N'),
+        Command::Finish => put_pair(out, b'F', b'E'),
+        Command::Inform => put_pair(out, b'F', b'I'),
+        Command::Ask => put(out, 0, b'?'),
         Command::Size { p1, p2 } => put_size(out, p1, p2),
         Command::Direction { d } => put_direction(out, d),
         Command::Text { put } => put_text(out, s, put),
-        Command::Black { bar } => put_bar(out, 79, bar),
-        Command::Flip { bar } => put_bar(out, 69, bar),
-        Command::White { bar } => put_bar(out, 87, bar),
+        Command::Black { bar } => put_bar(out, b'O', bar),
+        Command::Flip { bar } => put_bar(out, b'E', bar),
+        Command::White { bar } => put_bar(out, b'W', bar),
         Command::Frame { x1, y1, t, x2, y2 } => put_frame(out, x1, y1, t, x2, y2),
         Command::Counting {
             n,
@@ -339,11 +338,10 @@ pub fn put_normal(out: &mut [u8], s: &[u8], c: Command) -> usize
             prompt,
         } => put_counting(out, s, n, len, step, prompt),
         Command::Varying { n, len, prompt } => put_varying(out, s, n, len, prompt),
-        Command::Start { name } => put_name(out, 83, s, name),
-        Command::Recall { name } => put_name(out, 82, s, name),
-        Command::Delete { name } => put_name(out, 75, s, name),
+        Command::Start { name } => put_name(out, b'S', s, name),
+        Command::Recall { name } => put_name(out, b'R', s, name),
+        Command::Delete { name } => put_name(out, b'K', s, name),
         Command::Print { sets, copies } => put_print(out, sets, copies),
-        Command::Refused { why: _ } => 0,
     }
 }
 
@@ -351,13 +349,11 @@ pub fn put_normal(out: &mut [u8], s: &[u8], c: Command) -> usize
 fn is_held(s: &[u8], string: Span) -> bool
     ensures { result ≡ held_at s.now string }
 {
-    let Closing::At { end, len } = plain_at(s, string.start, 0) else {
-        return false;
+    let held = Closing {
+        end: string.end,
+        len: string.len,
     };
-    if end != string.end {
-        return false;
-    }
-    len == string.len
+    plain_at(s, string.start, 0) == Some(held)
 }
 
 // No byte of a string is below 20H.
@@ -365,10 +361,11 @@ fn all_shown(s: &[u8], start: usize, end: usize) -> bool
     requires { Closes s.now start end }
     ensures { result ≡ every is_shown (text_at s.now start) }
 {
+    // Kept: the bytes of a string are not those of a part of the source, as a backslash takes the next one along.
     let mut i = start;
     while i < end {
         let literal = literal_at(s, i);
-        if s[literal] < 32 {
+        if s[literal] < SHOWN {
             return false;
         }
         i = literal + 1;
@@ -380,10 +377,7 @@ fn all_shown(s: &[u8], start: usize, end: usize) -> bool
 fn is_shown(s: &[u8], string: Span) -> bool
     ensures { result ≡ shown_at s.now string }
 {
-    if !is_held(s, string) {
-        return false;
-    }
-    all_shown(s, string.start, string.end)
+    is_held(s, string) && all_shown(s, string.start, string.end)
 }
 
 // The string of a content, if it has one.
@@ -391,11 +385,10 @@ fn is_content(s: &[u8], c: Content) -> bool
     ensures { result ≡ content_shown s.now c }
 {
     match c {
-        Content::Text { string } => is_shown(s, string),
-        Content::Counter { n: _ } => true,
-        Content::Variable { n: _ } => true,
-        Content::TextCounter { string, n: _ } => is_shown(s, string),
-        Content::TextVariable { string, n: _ } => is_shown(s, string),
+        Content::Counter { .. } | Content::Variable { .. } => true,
+        Content::Text { string }
+        | Content::TextCounter { string, .. }
+        | Content::TextVariable { string, .. } => is_shown(s, string),
     }
 }
 
@@ -403,76 +396,47 @@ fn is_content(s: &[u8], c: Content) -> bool
 fn is_text(s: &[u8], p: Put) -> bool
     ensures { result ≡ (content_held s.now p.content && in_range width (put_of s.now p)) }
 {
-    let content = p.content;
-    if !is_content(s, content) {
-        return false;
-    }
-    let setting = p.setting;
-    if !setting_in(setting) {
-        return false;
-    }
-    content_in(content)
+    is_content(s, p.content) && setting_in(p.setting) && content_in(p.content)
 }
 
 // A counter's definition that some line reads as.
 fn is_counting(s: &[u8], n: usize, len: usize, step: Step, prompt: Span) -> bool
     ensures { result ≡ (held_at s.now prompt && in_range width (keep (define (counting n len 78 (step_of step) (text_in s.now prompt))))) }
 {
-    if !is_shown(s, prompt) {
-        return false;
-    }
-    counting_in(n, len, 78, step, prompt)
+    is_shown(s, prompt) && counting_in(n, len, b'N' as usize, step, prompt)
 }
 
 // A variable's definition that some line reads as.
 fn is_varying(s: &[u8], n: usize, len: usize, prompt: Span) -> bool
     ensures { result ≡ (held_at s.now prompt && in_range width (keep (define (varying n len 78 (text_in s.now prompt))))) }
 {
-    if !is_shown(s, prompt) {
-        return false;
-    }
-    varying_in(n, len, 78, prompt)
+    is_shown(s, prompt) && varying_in(n, len, b'N' as usize, prompt)
 }
 
 // A name that stands in the source.
 fn is_name(s: &[u8], name: Span) -> bool
     ensures { result ≡ (held_at s.now name && in_range width (file (start (text_in s.now name)))) }
 {
-    if !is_held(s, name) {
-        return false;
-    }
-    name_in(s, name)
+    is_held(s, name) && name_in(s, name)
 }
 
 // A name or the star, standing in the source.
 fn is_names(s: &[u8], name: Span) -> bool
     ensures { result ≡ (held_at s.now name && in_range width (file (delete (text_in s.now name)))) }
 {
-    if !is_held(s, name) {
-        return false;
-    }
-    if name_in(s, name) {
-        return true;
-    }
-    is_star(s, name)
+    is_held(s, name) && (name_in(s, name) || is_star(s, name))
 }
 
 // A record that some line reads as.
 fn is_readable(s: &[u8], c: Command) -> bool
-    ensures { result ≡ (record_held s.now c && readable (view_of s.now c)) }
+    ensures { result ≡ (command_held s.now c && in_range width (command_of s.now c)) }
 {
     match c {
-        Command::Empty => true,
-        Command::New => true,
-        Command::Finish => true,
-        Command::Inform => true,
-        Command::Ask => true,
+        Command::Empty | Command::New | Command::Finish | Command::Inform | Command::Ask => true,
         Command::Size { p1, p2 } => size_in(p1, p2),
         Command::Direction { d } => direction_in(d),
         Command::Text { put } => is_text(s, put),
-        Command::Black { bar } => bar_in(bar),
-        Command::Flip { bar } => bar_in(bar),
-        Command::White { bar } => bar_in(bar),
+        Command::Black { bar } | Command::Flip { bar } | Command::White { bar } => bar_in(bar),
         Command::Frame { x1, y1, t, x2, y2 } => frame_in(x1, y1, t, x2, y2),
         Command::Counting {
             n,
@@ -481,30 +445,27 @@ fn is_readable(s: &[u8], c: Command) -> bool
             prompt,
         } => is_counting(s, n, len, step, prompt),
         Command::Varying { n, len, prompt } => is_varying(s, n, len, prompt),
-        Command::Start { name } => is_name(s, name),
-        Command::Recall { name } => is_name(s, name),
+        Command::Start { name } | Command::Recall { name } => is_name(s, name),
         Command::Delete { name } => is_names(s, name),
         Command::Print { sets, copies } => print_in(sets, copies),
-        Command::Refused { why: _ } => false,
     }
 }
 
 // Writes a record of a line in normal form: 6 for one that no line reads as, 15 for a short buffer, and then nothing written.
-pub fn write_line(s: &[u8], c: Command, buf: &mut [u8]) -> Answer
+pub fn write_line(s: &[u8], c: Result<Command, Refusal>, buf: &mut [u8]) -> Answer
     ensures { WritesLine s.now c buf.old buf.new result }
 {
+    let Ok(c) = c else {
+        return Err(Refusal::OutOfRange);
+    };
     if !is_readable(s, c) {
-        return Answer::Refused {
-            why: Refusal::OutOfRange,
-        };
+        return Err(Refusal::OutOfRange);
     }
     let mut out = [0u8; 256];
     let len = put_normal(&mut out, s, c);
     if buf.len() < len {
-        return Answer::Refused {
-            why: Refusal::TooShort,
-        };
+        return Err(Refusal::TooShort);
     }
     put_all(buf, 0, &out[..len]);
-    Answer::Accepted { len }
+    Ok(len)
 }

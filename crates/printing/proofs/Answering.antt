@@ -7,6 +7,7 @@ use native.Mathlib.Omega.{arith}
 use lib.ListN.{length, take, drop, get_or, replicate, length-append, length-drop}
 use lib.Dec.{ltb}
 use borrow.Author.Tests.{eq-eqb, ne_eqb, le-ltb, lt-ltb, ltb-true, ltb-false}
+use Rattle.std.specs.Prelude.{Result, Ok, Option, Some, None}
 use Rattle.paper.specs.Byte.{every}
 use Rattle.paper.specs.Line.{long, control}
 use Rattle.paper.specs.Command as C
@@ -23,8 +24,6 @@ use Rattle.paper.proofs.Text.{clear_control, clear_between}
 use Rattle.text.specs.Write.{Writes, padded}
 use Rattle.text.proofs.Padded.{padded_length, padded_write}
 use Rattle.command.specs.View.{width, refusal_of}
-use Rattle.command.specs.declared.Answer.{Answer}
-use Rattle.command.specs.declared.Answer.TheVariants as A
 use Rattle.command.specs.declared.Refusal.{Refusal}
 use Rattle.command.specs.declared.Refusal.TheVariants as W
 use Rattle.form.proofs.Distinct.{asked_few}
@@ -33,8 +32,7 @@ use Rattle.set.specs.Answers.{answers_text, first_of, second_of, with_answer, va
 use Rattle.set.specs.Taking.{Asking, Notes}
 use Rattle.set.specs.Taking as T
 use Rattle.set.specs.Judge.{Judges}
-use Rattle.set.specs.declared.answer.Value.{Value}
-use Rattle.set.specs.declared.answer.Value.TheVariants.{Kept, Unfit}
+use Rattle.set.specs.declared.answer.Kept.{Kept}
 use Rattle.set.proofs.Answering.{answers_append, judged_kept, judged_unfit}
 use Rattle.set.proofs.Judging.{ask_short}
 use Rattle.set.proofs.Planned.{plan_asks}
@@ -42,24 +40,21 @@ use Rattle.session.specs.Memory.{Session, Shelf, session_of, holds, holding, pac
 use Rattle.session.specs.Outcome.{At, Planned, Does, Minds, Refuses, Hears, Answers, obey, waits_by, unfit_of, after_reading, after_line}
 use Rattle.session.specs.declared.state.Mode.{Mode}
 use Rattle.session.specs.declared.state.Mode.TheVariants as M
-use Rattle.session.specs.declared.state.Held.{Held}
-use Rattle.session.specs.declared.state.Turn.{Turn}
 use Rattle.session.proofs.Held.{seen, Tagged, IsAnswering, does_done, does_refuse}
 use Rattle.session.proofs.Room.{answers_room}
-use Rattle.printing.proofs.Standing.{moved_to, holding_held, moves_open, plan_at, open_values, open_plan, sound_at, opens_at}
+use Rattle.printing.proofs.Standing.{in_state, moves_open, plan_at, open_values, open_plan, sound_at, opens_at}
 
 -- `?` in Open asks for the first answer
-pub asks : (session : Session) (held : Held) (turn : Turn) → Tagged (3 ∷ []) session → held ≡ moved_to session.held (M.Answering 0) → turn ≡ record { answer = A.Accepted 0; held = held }
-    → Minds session ask turn.answer (holding_held session turn.held)
+pub asks : (session : Session) → Tagged (3 ∷ []) session → Minds session ask (Ok 0) (in_state session (M.Answering 0))
 unfolding obey packed_session after_command P.in_opened
-asks session held turn h m d =
+asks session h =
     record {
       minds = λ shelf. record {
         heeds = λ b. record {
           obeys = λ a. let o = seen 3 session a.forms a.number a.state a.here h in
-              rw (d, o.is)
-              (does_done (holding_held session held) shelf a.forms a.number (P.answering o.lines []) b
-              (moves_open session _ M.Opened held a.forms a.number o.lines [] (a.here ∙ ap (packed_session a.forms a.number) o.is) m) a.there);
+              rw o.is
+              (does_done (in_state session (M.Answering 0)) shelf a.forms a.number (P.answering o.lines []) b
+              (moves_open session _ M.Opened a.forms a.number o.lines [] (a.here ∙ ap (packed_session a.forms a.number) o.is)) a.there);
         };
       };
     }
@@ -194,7 +189,7 @@ stays_open n fs ls given (command C.ask) = refl
 stays_open n fs ls given (command (C.print sets copies)) = refl
 
 -- a line that is short and without control bytes is the answer to the next definition
-hears_answer : (session : Session) (shelf : Shelf) (k : ℕ) (s b : List ℕ) (answer : Answer) (next : Session) → session.held.mode ≡ M.Answering k → every is_shown s ≡ true → length s ≤ 256
+hears_answer : (session : Session) (shelf : Shelf) (k : ℕ) (s b : List ℕ) (answer : Result ℕ Refusal) (next : Session) → session.held.mode ≡ M.Answering k → every is_shown s ≡ true → length s ≤ 256
     → ((a : At session shelf) (w : Waits session shelf a k) → Does (P.answered a.forms w.lines w.given s (w.define ∷ w.more)) a.number b b answer next shelf)
     → Hears session shelf s b b answer next shelf
 unfolding P.heard P.in_answering long is_shown after_line
@@ -206,7 +201,7 @@ hears_answer session shelf k s b answer next m c h d =
     }
 
 -- one that is too long is refused for that
-hears_over : (session : Session) (shelf : Shelf) (k : ℕ) (s b : List ℕ) (answer : Answer) (next : Session) → session.held.mode ≡ M.Answering k → 256 < length s → Refuses W.TooLong session answer next → Hears session shelf s b b answer next shelf
+hears_over : (session : Session) (shelf : Shelf) (k : ℕ) (s b : List ℕ) (answer : Result ℕ Refusal) (next : Session) → session.held.mode ≡ M.Answering k → 256 < length s → Refuses W.TooLong session answer next → Hears session shelf s b b answer next shelf
 unfolding P.heard P.in_answering long after_line refusal_of
 hears_over session shelf k s b answer next m h f =
     record {
@@ -216,8 +211,8 @@ hears_over session shelf k s b answer next m h f =
     }
 
 -- 13: it does not fit
-hears_unfit : (session : Session) (shelf : Shelf) (k : ℕ) (s b : List ℕ) (r : Value) (answer : Answer) (next : Session) → session.held.mode ≡ M.Answering k → every is_shown s ≡ true → length s ≤ 256
-    → Judges (plan_at shelf.plans session.held.form) k s session.held.given r → r ≡ Unfit → Refuses W.Unfit session answer next → Hears session shelf s b b answer next shelf
+hears_unfit : (session : Session) (shelf : Shelf) (k : ℕ) (s b : List ℕ) (r : Option Kept) (answer : Result ℕ Refusal) (next : Session) → session.held.mode ≡ M.Answering k → every is_shown s ≡ true → length s ≤ 256
+    → Judges (plan_at shelf.plans session.held.form) k s session.held.given r → r ≡ None → Refuses W.Unfit session answer next → Hears session shelf s b b answer next shelf
 unfolding P.answered refusal_of packed_session
 hears_unfit session shelf k s b r answer next m c h j e f =
     hears_answer session shelf k s b answer next m c h
@@ -226,8 +221,8 @@ hears_unfit session shelf k s b r answer next m c h j e f =
     rw (if_false (fits w.define s) _ _ no')
     (does_refuse W.Unfit session answer next f shelf a.forms a.number (P.answering w.lines w.given) b (answering_here session shelf a k w) a.there))
 
-pub answers_unfit : (session : Session) (plans s : List ℕ) (k : ℕ) (r : Value) (answer : Answer) (next : Session) → session.held.mode ≡ M.Answering k → every is_shown s ≡ true
-    → Judges (plan_at plans session.held.form) k s session.held.given r → r ≡ Unfit → Refuses (unfit_of (length s)) session answer next → Answers session plans s answer next
+pub answers_unfit : (session : Session) (plans s : List ℕ) (k : ℕ) (r : Option Kept) (answer : Result ℕ Refusal) (next : Session) → session.held.mode ≡ M.Answering k → every is_shown s ≡ true
+    → Judges (plan_at plans session.held.form) k s session.held.given r → r ≡ None → Refuses (unfit_of (length s)) session answer next → Answers session plans s answer next
 unfolding unfit_of
 answers_unfit session plans s k r answer next m c j e f =
     record {
@@ -252,12 +247,12 @@ record Fitting (s : List ℕ) (given : List (List ℕ)) (define : Define) (first
   first_is : first ≡ first_of define s (length (answers_text given))
   second_is : second ≡ second_of define s (length (answers_text given))
 
-fits_as : (session : Session) (plans s : List ℕ) (k : ℕ) (r : Value) (first second : ℕ) → Judges (plan_at plans session.held.form) k s session.held.given r → r ≡ Kept first second
-    → (store : Store) (a : At session (record { store = store; plans = plans })) (w : Waits session (record { store = store; plans = plans }) a k) → Fitting s w.given w.define first second
+fits_as : (session : Session) (plans s : List ℕ) (k : ℕ) (r : Option Kept) (kept : Kept) → Judges (plan_at plans session.held.form) k s session.held.given r → r ≡ Some kept
+    → (store : Store) (a : At session (record { store = store; plans = plans })) (w : Waits session (record { store = store; plans = plans }) a k) → Fitting s w.given w.define kept.first kept.second
 unfolding holding holds
-fits_as session plans s k r first second j e store a w =
+fits_as session plans s k r kept j e store a w =
     let given : session.held.given ≡ length (answers_text w.given) = ap (λ x. x.held.given) w.is in
-    let y = judged_kept w.define s session.held.given first second (sym e ∙ j.judges (asking_at session _ a k w)) in
+    let y = judged_kept w.define s session.held.given kept (sym e ∙ j.judges (asking_at session _ a k w)) in
     record { fit = y.0; first_is = y.1 ∙ rw given; second_is = y.2 ∙ rw given }
 
 -- the answers with one more have room
@@ -267,11 +262,11 @@ room_next ls given d more s t e f y =
     omega (arith, answers_room ls (given ++ (s ∷ [])) t (fitting_more (asked ls) given d more s e f y).0, ap length (answers_append given s), length-append (answers_text given) s)
 
 -- in memory too
-pub answer_room : (session : Session) (plans s : List ℕ) (k : ℕ) (r : Value) (first second : ℕ) → session.held.mode ≡ M.Answering k → Planned session plans
-    → Judges (plan_at plans session.held.form) k s session.held.given r → r ≡ Kept first second → session.held.given + length s ≤ length session.answers
-answer_room session plans s k r first second m p j e =
+pub answer_room : (session : Session) (plans s : List ℕ) (k : ℕ) (r : Option Kept) (kept : Kept) → session.held.mode ≡ M.Answering k → Planned session plans
+    → Judges (plan_at plans session.held.form) k s session.held.given r → r ≡ Some kept → session.held.given + length s ≤ length session.answers
+answer_room session plans s k r kept m p j e =
     let w = waits session (record { store = p.store; plans = plans }) k p.at m in
-    let y = fits_as session plans s k r first second j e p.store p.at w in
+    let y = fits_as session plans s k r kept j e p.store p.at w in
     let room = room_next w.lines w.given w.define w.more s w.storable w.next w.fit y.fit in
     let (given, answers) = answers_are_in session _ _ _ _ w.given w.is in
     let size : length session.answers ≡ 1700 = rw answers (padded_length 1700 (answers_text w.given) (omega arith)) in
@@ -308,24 +303,22 @@ takes_answer session s answers values k given fs n ls gs e room w v mode =
     }
 
 -- and it is taken
-pub answers_fit : (session : Session) (plans s : List ℕ) (k : ℕ) (r : Value) (first second : ℕ) (answers : List ℕ) (given : ℕ) (values : List ℕ) (mode : Mode) (turn : Turn)
+pub answers_fit : (session : Session) (plans s : List ℕ) (k : ℕ) (r : Option Kept) (kept : Kept) (answers : List ℕ) (given : ℕ) (values : List ℕ) (mode : Mode)
     → Planned session plans → session.held.mode ≡ M.Answering k → every is_shown s ≡ true
-    → Judges (plan_at plans session.held.form) k s session.held.given r → r ≡ Kept first second
+    → Judges (plan_at plans session.held.form) k s session.held.given r → r ≡ Some kept
     → Writes session.answers session.held.given s answers given
-    → Notes session.values (plan_at plans session.held.form) k first second values
+    → Notes session.values (plan_at plans session.held.form) k kept.first kept.second values
     → mode ≡ waits_by (k + 1) (get_or (plan_at plans session.held.form) 0 0)
-    → turn ≡ record { answer = A.Accepted 0; held = record { mode = mode; form = session.held.form; start = session.held.start; size = session.held.size; len = session.held.len; drafted = session.held.drafted; given = given } }
-    → Answers session plans s turn.answer (session_of turn.held session.name session.text answers values)
+    → Answers session plans s (Ok 0) (session_of (record { mode = mode; form = session.held.form; start = session.held.start; size = session.held.size; len = session.held.len; drafted = session.held.drafted; given = given }) session.name session.text answers values)
 unfolding P.answered
-answers_fit session plans s k r first second answers given values mode turn p m c j e w v q d =
+answers_fit session plans s k r kept answers given values mode p m c j e w v q =
     let t₀ = waits session (record { store = p.store; plans = plans }) k p.at m in
-    let short = ask_short (plan_at plans session.held.form) k s (asking_at session _ p.at k t₀) (fits_as session plans s k r first second j e p.store p.at t₀).fit in
-    rw d
-    (record {
+    let short = ask_short (plan_at plans session.held.form) k s (asking_at session _ p.at k t₀) (fits_as session plans s k r kept j e p.store p.at t₀).fit in
+    record {
       answers = λ store b. let shelf : Shelf = record { store = store; plans = plans } in
           hears_answer session shelf k s b _ _ m c (omega (arith, short))
           (λ a x.
-          let y = fits_as session plans s k r first second j e store a x in
+          let y = fits_as session plans s k r kept j e store a x in
           let gs = x.given in
           let one : length (gs ++ (s ∷ [])) ≡ suc (length gs) = omega (arith, length-append gs (s ∷ [])) in
           let next : k + 1 ≡ length (gs ++ (s ∷ [])) = omega (arith, one, x.count) in
@@ -341,4 +334,4 @@ answers_fit session plans s k r first second answers given values mode turn p m 
           (takes_answer session s answers values k given _ _ _ gs x.is room w values-are mode
           ∙ ap (λ i. holding i a.forms a.number x.lines (gs ++ (s ∷ []))) mode-is
           ∙ sym (after_memory a.forms a.number x.lines (gs ++ (s ∷ [])) x.more count)) a.there));
-    })
+    }

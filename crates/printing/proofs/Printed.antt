@@ -8,6 +8,7 @@ use denote.Enum.Declared.{tag_of}
 use lib.ListN.{length, take}
 use lib.Dec.{leb, eqb}
 use borrow.Author.Tests.{eq-eqb, ne_eqb}
+use Rattle.std.specs.Prelude.{Result, Ok, Err}
 use Rattle.paper.specs.Command.{Command, FormLine, print}
 use Rattle.paper.specs.Form.{Form, asked}
 use Rattle.paper.specs.Set.{all_hold, set_of}
@@ -18,22 +19,18 @@ use Rattle.command.specs.View.{refusal_of}
 use Rattle.command.specs.Answer.{Meets, Reports}
 use Rattle.command.specs.declared.Refusal.{Refusal}
 use Rattle.command.specs.declared.Refusal.TheVariants as W
-use Rattle.command.specs.declared.Answer.{Answer}
-use Rattle.command.specs.declared.Answer.TheVariants as A
 use Rattle.normal.proofs.Lent.{front_length}
 use Rattle.set.specs.Taking.{Filled, Taking, Holds, Puts}
 use Rattle.session.specs.Memory.{Session, Shelf, drafts, drafting, holds, holding, packed_session, packed_shelf, after_command, Lies}
 use Rattle.session.specs.Outcome.{At, Planned, Showing, Does, Minds, Follows, Refuses, Takes, Gives, Onward, Advances, obey, handed}
 use Rattle.session.specs.declared.state.Mode.TheVariants as M
-use Rattle.session.specs.declared.state.Held.{Held}
-use Rattle.session.specs.declared.state.Turn.{Turn}
 use Rattle.session.specs.contracts.state.Mode as Mode
 use Rattle.session.proofs.Held.{Tagged, wrong, seen, IsReady, does_done, does_refused, does_refuse}
 use Rattle.session.proofs.Lending.{hands_bytes, front_within, hands_made}
-use Rattle.printing.proofs.Standing.{moved_to, holding_held, moves_open, part_of, plan_at, open_answers, open_values, open_plan, open_text, sound_at, opens_at}
+use Rattle.printing.proofs.Standing.{in_state, moves_open, part_of, plan_at, open_answers, open_values, open_plan, open_text, sound_at, opens_at}
 
 -- a command that is obeyed beside every shelf is obeyed beside these plans
-pub minds_follows : (session : Session) (plans : List ℕ) (c : Command) (answer : Answer) (next : Session) → Minds session c answer next → Follows session plans c answer next
+pub minds_follows : (session : Session) (plans : List ℕ) (c : Command) (answer : Result ℕ Refusal) (next : Session) → Minds session c answer next → Follows session plans c answer next
 minds_follows session plans c answer next m = record { follows = λ store. m.minds (record { store = store; plans = plans }) }
 
 module _ (session : Session) (h : Tagged (5 ∷ []) session) where
@@ -65,7 +62,7 @@ module _ (session : Session) (h : Tagged (5 ∷ []) session) where
 
   module _ (plans : List ℕ) (sets copies : ℕ) (u : Bool) (k : Holds (plan_at plans session.held.form) session.values (sets - 1) u) where
     -- some counter does not hold
-    pub print_overruns : (answer : Answer) (next : Session) → u ≡ false → Refuses W.Overrun session answer next → Follows session plans (print sets copies) answer next
+    pub print_overruns : (answer : Result ℕ Refusal) (next : Session) → u ≡ false → Refuses W.Overrun session answer next → Follows session plans (print sets copies) answer next
     unfolding obey after_command P.in_ready refusal_of ready_at
     print_overruns answer next n r =
         record {
@@ -82,19 +79,18 @@ module _ (session : Session) (h : Tagged (5 ∷ []) session) where
         }
 
     -- all do
-    pub print_goes : (held : Held) (turn : Turn) → u ≡ true → held ≡ moved_to session.held (M.Printing sets copies 0) → turn ≡ record { answer = A.Accepted 0; held = held }
-        → Follows session plans (print sets copies) turn.answer (holding_held session turn.held)
+    pub print_goes : u ≡ true → Follows session plans (print sets copies) (Ok 0) (in_state session (M.Printing sets copies 0))
     unfolding obey after_command P.in_ready packed_session ready_at
-    print_goes held turn yes' m d =
+    print_goes yes' =
         record {
           follows = λ store. record {
             heeds = λ b. record {
               obeys = λ a. let shelf : Shelf = record { store = store; plans = plans } in
                   let y = readied shelf a in
                   let same : all_hold (sets - 1) (asked y.lines) y.given ≡ true = sym (k.holds (ready_at shelf a)) ∙ yes' in
-                  rw (d, y.is, same, if_true)
-                  (does_done (holding_held session held) shelf a.forms a.number (P.printing y.lines y.given sets copies 0) b
-                  (moves_open session _ _ held _ _ _ _ (ready_here shelf a) m) a.there);
+                  rw (y.is, same, if_true)
+                  (does_done (in_state session (M.Printing sets copies 0)) shelf a.forms a.number (P.printing y.lines y.given sets copies 0) b
+                  (moves_open session _ _ _ _ _ _ (ready_here shelf a)) a.there);
             };
           };
         }
@@ -109,16 +105,16 @@ module _ (text answers plan values : List ℕ) (copies i : ℕ) (out mid : List 
   set_size t = front_length out _ mid next (w.puts t)
 
   -- and is handed on
-  pub set_handed : (old new : List ℕ) (r : Answer) → Meets (handed (length old) (take next mid)) old new r → Gives text answers plan values copies i old new r
+  pub set_handed : (old new : List ℕ) (r : Result ℕ Refusal) → Meets (handed (length old) (take next mid)) old new r → Gives text answers plan values copies i old new r
   set_handed old new r m = record { gives = λ t. hands_made out mid old new _ next r (w.puts t) m }
 
   -- or was made where it belongs
-  pub set_given : Gives text answers plan values copies i out mid (A.Accepted next)
+  pub set_given : Gives text answers plan values copies i out mid (Ok next)
   set_given = record { gives = λ t. hands_bytes out _ mid next (w.puts t) }
 
 -- bytes that had room: the state goes on
-pub replies_on : (bytes old new : List ℕ) (answer : Answer) (len : ℕ) (next : Session) (shelf : Shelf) (fs : List Form) (n : ℕ) (stay go : P.Session)
-    → Meets (handed (length old) bytes) old new answer → answer ≡ A.Accepted len → next ≡ packed_session fs n go → shelf ≡ packed_shelf fs
+pub replies_on : (bytes old new : List ℕ) (answer : Result ℕ Refusal) (len : ℕ) (next : Session) (shelf : Shelf) (fs : List Form) (n : ℕ) (stay go : P.Session)
+    → Meets (handed (length old) bytes) old new answer → answer ≡ Ok len → next ≡ packed_session fs n go → shelf ≡ packed_shelf fs
     → Does (P.replied (length old) bytes fs stay go) n old new answer next shelf
 unfolding handed P.replied P.outcome Reports
 replies_on bytes old new answer len next shelf fs n stay go m e f g = by (leb (length bytes) (length old)) refl
@@ -128,8 +124,8 @@ replies_on bytes old new answer len next shelf fs n stay go m e f g = by (leb (l
     by false q = absurd (rw (q, if_false, e) at m.reports)
 
 -- bytes that had not: it stays
-pub replies_not : (bytes old new : List ℕ) (answer : Answer) (why : Refusal) (next : Session) (shelf : Shelf) (fs : List Form) (n : ℕ) (stay go : P.Session)
-    → Meets (handed (length old) bytes) old new answer → answer ≡ A.Refused why → next ≡ packed_session fs n stay → shelf ≡ packed_shelf fs
+pub replies_not : (bytes old new : List ℕ) (answer : Result ℕ Refusal) (why : Refusal) (next : Session) (shelf : Shelf) (fs : List Form) (n : ℕ) (stay go : P.Session)
+    → Meets (handed (length old) bytes) old new answer → answer ≡ Err why → next ≡ packed_session fs n stay → shelf ≡ packed_shelf fs
     → Does (P.replied (length old) bytes fs stay go) n old new answer next shelf
 unfolding handed P.replied P.outcome Reports
 replies_not bytes old new answer why next shelf fs n stay go m e f g = by (leb (length bytes) (length old)) refl
@@ -212,7 +208,7 @@ module _ (session : Session) (sets copies out : ℕ) (h : session.held.mode ≡ 
   pub printed_onward : (all plans : List ℕ) → Showing session all plans → Onward session sets copies out
   printed_onward all plans s = record { kept = record { shelf = s.shelf; at = s.at }; is = h; few = printed_left s.shelf s.at }
 
-  module _ (all plans old new : List ℕ) (answer : Answer)
+  module _ (all plans old new : List ℕ) (answer : Result ℕ Refusal)
       (g : Gives (part_of all session.held.start (session.held.start + session.held.size)) (take session.held.given session.answers) (plan_at plans session.held.form) session.values copies out old new answer) where
     -- what is handed on is the set
     given_set : (shelf : Shelf) → shelf.store.text ≡ all → shelf.plans ≡ plans → (a : At session shelf) → Meets (handed (length old) (set_of (printed shelf a).lines (printed shelf a).given copies out)) old new answer
@@ -220,23 +216,25 @@ module _ (session : Session) (sets copies out : ℕ) (h : session.held.mode ≡ 
     given_set shelf p q a = (rw (← p, ← q) at g).gives (printed_at shelf a)
 
     -- a set that has no room
-    pub takes_short : (why : Refusal) → answer ≡ A.Refused why → Takes session all plans old new answer session
+    pub takes_short : (why : Refusal) → answer ≡ Err why → Takes session all plans old new (Err why) session
     unfolding P.taken
     takes_short why e =
-        record {
+        let t : Takes session all plans old new answer session = record {
           takes = λ shelf p q a. let y = printed shelf a in
               rw y.is (replies_not _ old new answer why session shelf a.forms a.number _ _ (given_set shelf p q a) e (printed_here shelf a) a.there);
-        }
+        } in
+        rw e at t
 
     -- and one that has: the session goes on
-    pub takes_set : (len : ℕ) (next : Session) → answer ≡ A.Accepted len → Advances session sets copies out next → Takes session all plans old new answer next
+    pub takes_set : (len : ℕ) (next : Session) → answer ≡ Ok len → Advances session sets copies out next → Takes session all plans old new (Ok len) next
     unfolding P.taken
     takes_set len next e f =
-        record {
+        let t : Takes session all plans old new answer next = record {
           takes = λ shelf p q a. let y = printed shelf a in
               rw y.is
               (replies_on _ old new answer len next shelf a.forms a.number _ _ (given_set shelf p q a) e (f.advances _ _ _ _ (printed_here shelf a)) a.there);
-        }
+        } in
+        rw e at t
 
 -- after the last set Idle
 pub goes_idle : (session next : Session) (sets copies out : ℕ) → out + 1 ≡ sets → next ≡ drafting M.Idle [] [] → Advances session sets copies out next
@@ -246,21 +244,19 @@ goes_idle session next sets copies out l f =
     record { advances = λ fs n ls given e. rw (last, if_true) f }
 
 -- else one set more is out
-pub goes_onward : (session : Session) (held : Held) (sets copies out : ℕ) → (out + 1 ≡ sets → ⊥) → held ≡ moved_to session.held (M.Printing sets copies (out + 1))
-    → Advances session sets copies out (holding_held session held)
+pub goes_onward : (session : Session) (sets copies out : ℕ) → (out + 1 ≡ sets → ⊥) → Advances session sets copies out (in_state session (M.Printing sets copies (out + 1)))
 unfolding P.after_set packed_session
-goes_onward session held sets copies out l m =
+goes_onward session sets copies out l =
     let one : out + 1 ≡ suc out = omega arith in
     let more : eqb (suc out) sets ≡ false = ne_eqb (suc out) sets (λ q. l (one ∙ q)) in
-    record { advances = λ fs n ls given e. rw (more, if_false) (moves_open session _ _ held fs n ls given e m ∙ rw one) }
+    record { advances = λ fs n ls given e. rw (more, if_false) (moves_open session _ _ fs n ls given e ∙ rw one) }
 
 -- a take where nothing is printed
-pub takes_nothing : (session : Session) (all plans b : List ℕ) (turn : Turn) → Tagged (0 ∷ 1 ∷ 2 ∷ 3 ∷ 4 ∷ 5 ∷ []) session → turn ≡ record { answer = A.Refused W.NotPrinting; held = session.held }
-    → Takes session all plans b b turn.answer (holding_held session turn.held)
+pub takes_nothing : (session : Session) (all plans b : List ℕ) → Tagged (0 ∷ 1 ∷ 2 ∷ 3 ∷ 4 ∷ 5 ∷ []) session → Takes session all plans b b (Err W.NotPrinting) session
 unfolding refusal_of P.taken packed_session drafting drafts holding holds
-takes_nothing session all plans b turn h d =
+takes_nothing session all plans b h =
     record {
-      takes = λ shelf p q a. rw (d, nothing a.forms a.number a.state a.here)
+      takes = λ shelf p q a. rw (nothing a.forms a.number a.state a.here)
           (does_refused W.NotPrinting session shelf a.forms a.number a.state b a.here a.there);
     }
   where

@@ -1,10 +1,9 @@
 -- What a session has of the shelf: where the form that it holds open stands there, with its text and its plan.
 use Prim.Native.Nat.{ℕ, ◌+◌, ◌-◌, ◌*◌, ◌≤◌, ◌<◌}
-use mathlib.Core.Path.{◌≡◌, sym, ◌∙◌, ap}
+use mathlib.Core.Path.{◌≡◌, ap}
 use mathlib.Core.List.{List}
 use native.Mathlib.Omega.{arith}
 use lib.ListN.{length, take, drop}
-use lib.Seq.{length-take-le}
 use Rattle.paper.specs.Command.{FormLine}
 use Rattle.paper.specs.Form.{Form, text_of, asked}
 use Rattle.paper.specs.Bench as P
@@ -28,14 +27,14 @@ abbrev pub moved_to : Held → Mode → Held
 moved_to held mode = record { mode = mode; form = held.form; start = held.start; size = held.size; len = held.len; drafted = held.drafted; given = held.given }
 
 -- the session with them
-abbrev pub holding_held : Session → Held → Session
-holding_held session held = session_of held session.name session.text session.answers session.values
+abbrev pub in_state : Session → Mode → Session
+in_state session mode = session_of (moved_to session.held mode) session.name session.text session.answers session.values
 
 -- a session that holds a form open, in another state
-pub moves_open : (session : Session) (to mode : Mode) (held : Held) (fs : List Form) (n : ℕ) (ls : List FormLine) (given : List (List ℕ)) → session ≡ holding mode fs n ls given
-    → held ≡ moved_to session.held to → holding_held session held ≡ holding to fs n ls given
+pub moves_open : (session : Session) (to mode : Mode) (fs : List Form) (n : ℕ) (ls : List FormLine) (given : List (List ℕ)) → session ≡ holding mode fs n ls given
+    → in_state session to ≡ holding to fs n ls given
 unfolding holding holds
-moves_open session to mode held fs n ls given e m = ap (λ x. holding_held session x) m ∙ ap (λ x. holding_held x (moved_to x.held to)) e
+moves_open session to mode fs n ls given e = ap (λ x. in_state x to) e
 
 -- the part of some memory between two places
 abbrev pub part_of : List ℕ → (from to : ℕ) → List ℕ
@@ -117,10 +116,6 @@ showing_inside session all plans s =
 -- the used bytes of its answers lie within them
 pub kept_answers : (session : Session) → Kept session → session.held.given ≤ length session.answers
 kept_answers session k = omega (arith, fills_inside _ _ _ (kept_used session k).answers)
-
--- they are as many as are used
-pub kept_given : (session : Session) → Kept session → session.held.given ≡ length (take session.held.given session.answers)
-kept_given session k = sym (length-take-le _ _ (kept_answers session k))
 
 module _ (session : Session) (mode : Mode) (fs : List Form) (n : ℕ) (ls : List FormLine) (given : List (List ℕ)) (e : session ≡ holding mode fs n ls given) where
   -- of a session that holds form n open: the answers

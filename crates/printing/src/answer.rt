@@ -3,33 +3,28 @@ ghost use Rattle.std.specs.Prelude.{◌≡◌, true};
 ghost use Rattle.paper.specs.Byte.{every};
 ghost use Rattle.paper.specs.Command as C;
 ghost use Rattle.paper.specs.Command.{is_shown};
-ghost use Rattle.session.specs.Memory.{session_of};
+ghost use Rattle.session.specs.Memory.{lent, SameLoan};
 ghost use Rattle.session.specs.Outcome.{Kept, Planned, Minds, Answers, waits_by, unfit_of};
 ghost use Rattle.session.specs.declared.state.Mode.TheVariants as M;
 
-use command::Refusal;
+use command::{Answer, Refusal};
 use form::plan::PLAN;
 use line::read::LINE;
-use session::state::{Held, Mode, Turn, done, moved, refuse};
-use set::answer::{Value, judged, note_value};
+use session::state::{Mode, Session};
+use set::answer::{judged, note_value};
 use text::write::put_all;
 
 // `?` asks for the first answer of an opened form.
-pub fn ask(
-    held: Held,
-    name: &mut [u8],
-    text: &mut [u8],
-    answers: &mut [u8],
-    values: &mut [usize],
-) -> Turn
-    requires { Kept (session_of held name.old text.old answers.old values.old) }
-    ensures { Minds (session_of held name.old text.old answers.old values.old) C.ask result.answer (session_of result.held name.new text.new answers.new values.new) }
+pub fn ask(session: &mut Session<'_>) -> Answer
+    requires { Kept (lent session.old) }
+    ensures same { SameLoan session.old session.new }
+    ensures value { Minds (lent session.old) C.ask result (lent session.new) }
 {
-    let mode = held.mode;
-    let Mode::Opened = mode else {
-        return refuse(Refusal::NotNow, held, name, text, answers, values);
+    let Mode::Opened = session.held.mode else {
+        return session.refuse(Refusal::NotNow);
     };
-    done(moved(held, Mode::Answering { k: 0 }))
+    session.held.mode = Mode::Answering { k: 0 };
+    Ok(0)
 }
 
 // The state behind k answers of so many.
@@ -53,36 +48,21 @@ fn unfit_of(n: usize) -> Refusal
 }
 
 // A line without control bytes is answer k: kept where it fits, with what it is worth. One that is too long fits nothing.
-pub fn answer(
-    held: Held,
-    name: &mut [u8],
-    text: &mut [u8],
-    answers: &mut [u8],
-    values: &mut [usize],
-    plans: &[usize],
-    s: &[u8],
-    k: usize,
-) -> Turn
-    requires planned { Planned (session_of held name.old text.old answers.old values.old) plans.now }
-    requires mode_value { held.mode ≡ M.Answering k }
+pub fn answer(session: &mut Session<'_>, plans: &[usize], s: &[u8], k: usize) -> Answer
+    requires planned { Planned (lent session.old) plans.now }
+    requires mode_value { session.old.held.mode ≡ M.Answering k }
     requires s_value { every is_shown s.now ≡ true }
-    ensures { Answers (session_of held name.old text.old answers.old values.old) plans.now s.now result.answer (session_of result.held name.new text.new answers.new values.new) }
+    ensures same { SameLoan session.old session.new }
+    ensures value { Answers (lent session.old) plans.now s.now result (lent session.new) }
 {
-    let at = held.form * PLAN;
+    let at = session.held.form * PLAN;
     let end = at + PLAN;
     let plan = &plans[at..end];
-    let Value::Kept { first, second } = judged(plan, k, s, held.given) else {
-        return refuse(unfit_of(s.len()), held, name, text, answers, values);
+    let Some(kept) = judged(plan, k, s, session.held.given) else {
+        return session.refuse(unfit_of(s.len()));
     };
-    let given = put_all(answers, held.given, s);
-    note_value(values, plan, k, first, second);
-    done(Held {
-        mode: waiting(k + 1, plan[0]),
-        form: held.form,
-        start: held.start,
-        size: held.size,
-        len: held.len,
-        drafted: held.drafted,
-        given,
-    })
+    session.held.given = put_all(session.answers, session.held.given, s);
+    note_value(session.values, plan, k, kept);
+    session.held.mode = waiting(k + 1, plan[0]);
+    Ok(0)
 }

@@ -2,51 +2,40 @@
 ghost use Rattle.std.specs.Prelude.{◌≤◌, ◌≡◌};
 ghost use Rattle.paper.specs.Command as C;
 ghost use Rattle.set.specs.Taking.{Taking};
-ghost use Rattle.session.specs.Memory.{session_of};
+ghost use Rattle.session.specs.Memory.{lent, SameLoan};
 ghost use Rattle.session.specs.Outcome.{Planned, Showing, Follows, Gives, Onward, Advances, Takes};
 ghost use Rattle.session.specs.declared.state.Mode.TheVariants as M;
 
 use command::{Answer, Refusal};
 use form::plan::PLAN;
 use session::reply::hand;
-use session::state::{Held, Mode, Turn, done, fresh, kept, moved, refuse};
+use session::state::{Mode, Session};
 use set::take::{all_hold, put_set};
 
 // Room for the longest set.
 pub const SET: usize = 10291;
 
 // `P` asks for so many sets, with so many copies of each, of a form whose counters hold in all of them.
-pub fn print(
-    held: Held,
-    name: &mut [u8],
-    text: &mut [u8],
-    answers: &mut [u8],
-    values: &mut [usize],
-    plans: &[usize],
-    sets: usize,
-    copies: usize,
-) -> Turn
-    requires planned { Planned (session_of held name.old text.old answers.old values.old) plans.now }
+pub fn print(session: &mut Session<'_>, plans: &[usize], sets: usize, copies: usize) -> Answer
+    requires planned { Planned (lent session.old) plans.now }
     requires le_sets { (1 ≤ sets) × (sets ≤ 65535) }
-    ensures { Follows (session_of held name.old text.old answers.old values.old) plans.now (C.print sets copies) result.answer (session_of result.held name.new text.new answers.new values.new) }
+    ensures same { SameLoan session.old session.new }
+    ensures value { Follows (lent session.old) plans.now (C.print sets copies) result (lent session.new) }
 {
-    let mode = held.mode;
-    let Mode::Ready = mode else {
-        return refuse(Refusal::NotNow, held, name, text, answers, values);
+    let Mode::Ready = session.held.mode else {
+        return session.refuse(Refusal::NotNow);
     };
-    let at = held.form * PLAN;
+    let at = session.held.form * PLAN;
     let end = at + PLAN;
-    if !all_hold(&plans[at..end], values, sets - 1) {
-        return refuse(Refusal::Overrun, held, name, text, answers, values);
+    if !all_hold(&plans[at..end], session.worth(), sets - 1) {
+        return session.refuse(Refusal::Overrun);
     }
-    done(moved(
-        held,
-        Mode::Printing {
-            sets,
-            copies,
-            out: 0,
-        },
-    ))
+    session.held.mode = Mode::Printing {
+        sets,
+        copies,
+        out: 0,
+    };
+    Ok(0)
 }
 
 // A set for a lent buffer, if it has room: straight into one in which every set has, and else by way of one.
@@ -63,9 +52,7 @@ fn give<'a>(
     ensures { Gives text.now answers.now plan.now values.now copies i buf.old buf.new result }
 {
     if SET <= buf.len() {
-        return Answer::Accepted {
-            len: put_set(buf, text, answers, plan, values, copies, i),
-        };
+        return Ok(put_set(buf, text, answers, plan, values, copies, i));
     }
     let mut out = [0u8; 10291];
     let n = put_set(&mut out, text, answers, plan, values, copies, i);
@@ -73,91 +60,62 @@ fn give<'a>(
 }
 
 // The session after a set: Idle after the last, else with one set more out.
-fn onward(
-    held: Held,
-    name: &mut [u8],
-    text: &mut [u8],
-    answers: &mut [u8],
-    values: &mut [usize],
-    sets: usize,
-    copies: usize,
-    out: usize,
-) -> Held
-    requires { Onward (session_of held name.old text.old answers.old values.old) sets copies out }
-    ensures { Advances (session_of held name.old text.old answers.old values.old) sets copies out (session_of result name.new text.new answers.new values.new) }
+fn onward(session: &mut Session<'_>, sets: usize, copies: usize, out: usize)
+    requires { Onward (lent session.old) sets copies out }
+    ensures same { SameLoan session.old session.new }
+    ensures value { Advances (lent session.old) sets copies out (lent session.new) }
 {
     let next = out + 1;
     if next == sets {
-        return fresh(Mode::Idle, held, name, text, answers, values);
+        return session.fresh(Mode::Idle);
     }
-    moved(
-        held,
-        Mode::Printing {
-            sets,
-            copies,
-            out: next,
-        },
-    )
+    session.held.mode = Mode::Printing {
+        sets,
+        copies,
+        out: next,
+    };
 }
 
 // The next set, if it has room.
 fn next_set(
-    held: Held,
-    name: &mut [u8],
-    text: &mut [u8],
-    answers: &mut [u8],
-    values: &mut [usize],
+    session: &mut Session<'_>,
     all: &[u8],
     plans: &[usize],
     buf: &mut [u8],
     sets: usize,
     copies: usize,
     out: usize,
-) -> Turn
-    requires showing { Showing (session_of held name.old text.old answers.old values.old) all.now plans.now }
-    requires mode_value { held.mode ≡ M.Printing sets copies out }
-    ensures { Takes (session_of held name.old text.old answers.old values.old) all.now plans.now buf.old buf.new result.answer (session_of result.held name.new text.new answers.new values.new) }
+) -> Answer
+    requires showing { Showing (lent session.old) all.now plans.now }
+    requires mode_value { session.old.held.mode ≡ M.Printing sets copies out }
+    ensures same { SameLoan session.old session.new }
+    ensures value { Takes (lent session.old) all.now plans.now buf.old buf.new result (lent session.new) }
 {
-    let from = held.start;
-    let to = from + held.size;
-    let at = held.form * PLAN;
+    let from = session.held.start;
+    let to = from + session.held.size;
+    let at = session.held.form * PLAN;
     let end = at + PLAN;
-    let given = held.given;
-    let answer = give(
+    let len = give(
         buf,
         &all[from..to],
-        &answers[..given],
+        session.given(),
         &plans[at..end],
-        values,
+        session.worth(),
         copies,
         out,
-    );
-    let Answer::Accepted { len: _ } = answer else {
-        return Turn { answer, held };
-    };
-    let next = onward(held, name, text, answers, values, sets, copies, out);
-    Turn { answer, held: next }
+    )?;
+    onward(session, sets, copies, out);
+    Ok(len)
 }
 
 // A set is taken while Printing.
-pub fn take_next(
-    held: Held,
-    name: &mut [u8],
-    text: &mut [u8],
-    answers: &mut [u8],
-    values: &mut [usize],
-    all: &[u8],
-    plans: &[usize],
-    buf: &mut [u8],
-) -> Turn
-    requires { Showing (session_of held name.old text.old answers.old values.old) all.now plans.now }
-    ensures { Takes (session_of held name.old text.old answers.old values.old) all.now plans.now buf.old buf.new result.answer (session_of result.held name.new text.new answers.new values.new) }
+pub fn take_next(session: &mut Session<'_>, all: &[u8], plans: &[usize], buf: &mut [u8]) -> Answer
+    requires { Showing (lent session.old) all.now plans.now }
+    ensures same { SameLoan session.old session.new }
+    ensures value { Takes (lent session.old) all.now plans.now buf.old buf.new result (lent session.new) }
 {
-    let mode = held.mode;
-    let Mode::Printing { sets, copies, out } = mode else {
-        return kept(Refusal::NotPrinting, held);
+    let Mode::Printing { sets, copies, out } = session.held.mode else {
+        return Err(Refusal::NotPrinting);
     };
-    next_set(
-        held, name, text, answers, values, all, plans, buf, sets, copies, out,
-    )
+    next_set(session, all, plans, buf, sets, copies, out)
 }

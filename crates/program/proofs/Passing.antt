@@ -1,11 +1,10 @@
 -- A piece of input, fill by fill, and the reads one after the other.
 use Prim.Native.Nat.{ℕ, ◌+◌, ◌-◌, ◌*◌, ◌^◌, ◌≤◌, ◌<◌}
-use mathlib.Core.Path.{◌≡◌, refl, sym, ◌∙◌}
+use mathlib.Core.Path.{◌≡◌, refl, ◌∙◌}
 use mathlib.Core.Bool.{Bool, true, false, false≢true}
 use mathlib.Core.List.{List}
 use native.Mathlib.Omega.{arith}
 use lib.ListN.{length, take, length-append, length-take}
-use lib.IntN.{ℤ}
 use Rattle.paper.specs.Bench.{begin}
 use Rattle.paper.specs.Class.{begin_class, desk}
 use Rattle.paper.specs.Line.{kept}
@@ -14,12 +13,9 @@ use Rattle.paper.specs.Program.{to_take}
 use Rattle.paper.proofs.Alone.{begin_alone}
 use Rattle.paper.proofs.Test.{either}
 use Rattle.text.specs.Place.{from}
-use Rattle.streams.specs.Streams.{Reads, Writes}
-use Rattle.streams.proofs.Telling.{of_bytes}
-use Rattle.streams.specs.declared.Read.{Read}
-use Rattle.streams.specs.declared.Read.TheVariants.{Bytes, End, Failed}
-use Rattle.streams.specs.declared.Written.{Written}
-use Rattle.streams.specs.declared.Written.TheVariants as W
+use Rattle.std.proofs.Common.{Result, Ok, Err}
+use Rattle.streams.specs.Streams.{bytes_of, Writes}
+use Rattle.streams.specs.declared.errors.Errno.{Errno}
 use Rattle.call.specs.Call.{Memory}
 use Rattle.tablets.specs.Calls.{Reached, Begins}
 use Rattle.tablets.proofs.Leading.{begins_on}
@@ -28,7 +24,7 @@ use Rattle.flow.specs.declared.fill.Run.{Run}
 use Rattle.program.specs.declared.Passed.{Passed}
 use Rattle.flow.specs.Emit.{Standing, start, joined}
 use Rattle.flow.specs.Fill.{Desk, desk_of, Place, place_in, At, Stands, Inside, Leads, weight, Fills}
-use Rattle.program.specs.Pass.{StandsAt, Passes, Obeys, bytes_of, Starting}
+use Rattle.program.specs.Pass.{StandsAt, Passes, Obeys, Starting}
 use Rattle.flow.proofs.Filling.{leads_none, leads_then, goes_inside}
 
 -- each part of memory has the size that it had
@@ -144,34 +140,28 @@ module _ {d : Desk} {input out₀ err₀ : List ℕ} {e : Desk} {next : ℕ} {ou
           let x = fills.goes.puts l.here l.at in
           omega (arith, x.outs.ends, length-append l.said.out x.leads.said.out)
 
-      -- standard output did not take it
-      pub passes_some : 0 < length (take q.out new) → Passes d input q.desk q.next false
-      passes_some h =
+      -- standard output did not take it, or the input is used up
+      pub passes_ends : (going : Bool) → (going ≡ false → 0 < length (take q.out new)) → (going ≡ true → used ≡ true) → Passes d input q.desk q.next going
+      passes_ends going lost whole =
           let p = passing_turns in
           record {
             stands = p.stands;
             leads = p.leads;
             few = omega (arith, p.few);
-            ends = λ g. absurd (false≢true g);
+            ends = λ g. fills.ends (whole g);
             moves = passing_less.1;
-            speaks = λ g some. speaks (omega (arith, length-take q.out new));
+            speaks = λ g some. speaks (omega (arith, lost g, length-take q.out new));
           }
 
-      -- or the input is used up
-      pub passes_all : used ≡ true → Passes d input q.desk q.next true
-      passes_all u =
-          let p = passing_turns in
-          record { stands = p.stands; leads = p.leads; few = omega (arith, p.few); ends = λ g. fills.ends u; moves = passing_less.1; speaks = λ g. absurd (false≢true (sym g)) }
-
 -- a write of no bytes does not fail
-pub failed_some : (n : ℕ) (written : Written) (error : ℤ) → written ≡ W.Failed error → Writes n written → 0 < n
-failed_some n written error e h = let some : Writes n (W.Failed error) = rw e at h in some.0
+pub failed_some : (n : ℕ) (written : Result Unit Errno) (error : Errno) → written ≡ Err error → Writes n written → 0 < n
+failed_some n written error e h = let some : Writes n (Err error) = rw e at h in some.0
 
 -- a run that ends
 abbrev last : Run → Passed
 last run = record { run = run; next = 0; going = false }
 
-module _ (run : Run) (memory : Memory) (waiting : List ℕ) (read : Read) (input : List ℕ) where
+module _ (run : Run) (memory : Memory) (waiting : List ℕ) (read : Result ℕ Errno) (input : List ℕ) where
   -- a read brought nothing
   obeys_none : bytes_of read ≡ 0 → Stands (desk_of run memory waiting) → Obeys (desk_of run memory waiting) read input (desk_of run memory waiting) 0 false
   unfolding from
@@ -189,23 +179,14 @@ module _ (run : Run) (memory : Memory) (waiting : List ℕ) (read : Read) (input
         stops = λ z. refl;
       }
 
-  -- the input has ended
-  pub obeys_end : (r : Passed) → read ≡ End → Stands (desk_of run memory waiting) → r ≡ last run → Obeys (desk_of run memory waiting) read input (desk_of r.run memory waiting) r.next r.going
-  unfolding bytes_of
-  obeys_end r e t is = rw is (obeys_none (rw e) t)
-
-  -- a read failed
-  pub obeys_failed : (r : Passed) (error : ℤ) → read ≡ Failed error → Stands (desk_of run memory waiting) → r ≡ last run
-      → Obeys (desk_of run memory waiting) read input (desk_of r.run memory waiting) r.next r.going
-  unfolding bytes_of
-  obeys_failed r error e t is = rw is (obeys_none (rw e) t)
+  pub obeys_nothing : (r : Passed) → bytes_of read ≡ 0 → Stands (desk_of run memory waiting) → r ≡ last run → Obeys (desk_of run memory waiting) read input (desk_of r.run memory waiting) r.next r.going
+  obeys_nothing r e t is = rw is (obeys_none e t)
 
 -- or it brought some bytes
-pub obeys_bytes : (d : Desk) (read : Read) (input : List ℕ) (n : ℕ) (e : Desk) (next : ℕ) (going : Bool) → read ≡ Bytes n → Reads input read → Passes d (take n input) e next going
+pub obeys_bytes : (d : Desk) (read : Result ℕ Errno) (input : List ℕ) (n : ℕ) (e : Desk) (next : ℕ) (going : Bool) → read ≡ Ok n → (n ≡ 0 → ⊥) → Passes d (take n input) e next going
     → Obeys d read input e next going
-unfolding bytes_of
 obeys_bytes d read input n e next going is some p =
-    record { passes = rw is p; stops = λ z. absurd (omega (arith, (of_bytes input some is).0, rw is at z)) }
+    record { passes = rw is p; stops = λ z. absurd (some (rw is at z)) }
 
 -- they can be counted
 pub bytes_counted : (d : Desk) (input : List ℕ) (n : ℕ) → StandsAt d (length input) → StandsAt d (length (take n input))
@@ -238,18 +219,18 @@ begins_at m wait b e =
 pub stands_reached : {d : Desk} → Stands d → Reached d.memory
 stands_reached t = t.at.lone.reached
 
--- the run stands where calls and input lead to, no more lines have come than the reads so far can bring, and memory and the buffers have
+-- the run stands where calls and input lead to, no more lines have come than so many reads can bring, and memory and the buffers have
 -- the sizes that they had
 pub record Reading (m : Memory) (input₀ out₀ err₀ : List ℕ) (d : Desk) (input out err : List ℕ) (turns : ℕ) : Type 0 where
   pub stands : Stands d
-  pub few : d.run.lines + turns * 65536 ≤ 2 ^ 63
+  pub few : d.run.lines ≤ turns * 65536
   pub starts : Starting m input₀ out₀ err₀
   pub sized : Sized m d.memory
   pub input_size : length input ≡ length input₀
   pub out_size : length out ≡ length out₀
   pub err_size : length err ≡ length err₀
 
-pub reading_begins : (d : Desk) (input out err : List ℕ) → Starting d.memory input out err → At d start → Reading d.memory input out err d input out err 140737488355328
+pub reading_begins : (d : Desk) (input out err : List ℕ) → Starting d.memory input out err → At d start → Reading d.memory input out err d input out err 0
 reading_begins d input out err t a =
     record {
       stands = record { paper = start; at = a; few = omega (arith, a.leaves) };
@@ -261,7 +242,7 @@ reading_begins d input out err t a =
       err_size = refl;
     }
 
-module _ {m : Memory} {input₀ out₀ err₀ : List ℕ} {d : Desk} {input out err : List ℕ} {turns : ℕ} (t : Reading m input₀ out₀ err₀ d input out err turns) (h : 0 < turns) where
+module _ {m : Memory} {input₀ out₀ err₀ : List ℕ} {d : Desk} {input out err : List ℕ} {turns : ℕ} (t : Reading m input₀ out₀ err₀ d input out err turns) (h : turns < 140737488355328) where
   -- a read can be obeyed
   pub reading_stands : (new : List ℕ) → length new ≡ length input → StandsAt d (length new)
   reading_stands new e = record { stands = t.stands; countable = omega (arith, t.few, t.input_size, t.starts.few) }
@@ -270,8 +251,8 @@ module _ {m : Memory} {input₀ out₀ err₀ : List ℕ} {d : Desk} {input out 
   reading_room = (omega (arith, t.out_size, t.starts.out_room), omega (arith, t.err_size, t.starts.err_room))
 
   -- a read more
-  pub reading_turns : (e : Desk) (new new_out new_err : List ℕ) (read : Read) (next : ℕ) (going : Bool) → Obeys d read new e next going → Sized d.memory e.memory
-      → length new ≡ length input → length new_out ≡ length out → length new_err ≡ length err → Reading m input₀ out₀ err₀ e new new_out new_err (turns - 1)
+  pub reading_turns : (e : Desk) (new new_out new_err : List ℕ) (read : Result ℕ Errno) (next : ℕ) (going : Bool) → Obeys d read new e next going → Sized d.memory e.memory
+      → length new ≡ length input → length new_out ≡ length out → length new_err ≡ length err → Reading m input₀ out₀ err₀ e new new_out new_err (turns + 1)
   reading_turns e new new_out new_err read next going o sizes i j k =
       record {
         stands = o.passes.stands;

@@ -1,8 +1,8 @@
 -- What the loops that read and write promise: what was to be said and where the run stands, and nothing of the streams that it went to.
-use Rattle.std.specs.Prelude.{ℕ, ◌+◌, ◌^◌, ◌≤◌, ◌<◌, ◌≡◌, Bool, true, false, List, length, take}
+use Rattle.std.specs.Prelude.{ℕ, ◌+◌, ◌^◌, ◌≤◌, ◌<◌, ◌≡◌, Bool, true, false, List, length, take, Result}
 use Rattle.text.specs.Place.{from}
-use Rattle.streams.specs.declared.Read.{Read}
-use Rattle.streams.specs.declared.Read.TheVariants.{Bytes, End, Failed}
+use Rattle.streams.specs.declared.errors.Errno.{Errno}
+use Rattle.streams.specs.Streams.{bytes_of}
 use Rattle.call.specs.Call.{Memory}
 use Rattle.tablets.specs.Calls.{Begins}
 use Rattle.flow.specs.Emit.{Standing}
@@ -23,14 +23,8 @@ pub record Passes (d : Desk) (input : List ℕ) (e : Desk) (next : ℕ) (going :
   pub moves : 0 < length input → weight (length input) (place_in e next) < weight (length input) (place_in d 0)
   pub speaks : going ≡ false → 0 < length input → (s : Standing) (a : At d s) → 0 < length (leads s a).said.out
 
--- the bytes that a read brought
-unfoldable pub bytes_of : Read → ℕ
-bytes_of (Bytes n) = n
-bytes_of End = 0
-bytes_of (Failed error) = 0
-
 -- `obey`: they are passed on, and the run ends where there are none
-pub record Obeys (d : Desk) (read : Read) (input : List ℕ) (e : Desk) (next : ℕ) (going : Bool) : Type 0 where
+pub record Obeys (d : Desk) (read : Result ℕ Errno) (input : List ℕ) (e : Desk) (next : ℕ) (going : Bool) : Type 0 where
   pub passes : Passes d (take (bytes_of read) input) e next going
   pub stops : bytes_of read ≡ 0 → going ≡ false
 

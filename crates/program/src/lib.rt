@@ -12,7 +12,7 @@ ghost use Rattle.program.specs.Pass.{StandsAt, Passes, Obeys, Starting};
 use flow::fill::{Reach, Run, fill};
 use std::io;
 use std::rt::Clock;
-use streams::{Read, Written, complain, read_some, write_whole};
+use streams::{Errno, complain, read_some, write_whole};
 
 // Writes out what waits for each stream, and answers whether standard output took it all. Where it did not, a last line on
 // standard error says so. A standard error that fails does not stop the labels.
@@ -26,10 +26,10 @@ fn write_both(
     ensures { result ≡ false → 0 < length out.now }
 {
     let written = write_whole(clock, to, out);
-    write_whole(clock, errors, err);
+    let _ = write_whole(clock, errors, err);
     match written {
-        Written::Whole => true,
-        Written::Failed { error } => {
+        Ok(()) => true,
+        Err(error) => {
             complain(clock, errors, b"bench: standard output", error);
             false
         }
@@ -38,7 +38,8 @@ fn write_both(
 
 // Where a piece of input led, up to which place, and whether the run goes on: not where standard output or standard input failed, nor where
 // the input has ended.
-#[derive(Clone, Copy)]
+// Kept: Passes and Obeys tell of both outcomes where the run stands, so that an enum of two variants with the same fields is no plainer.
+#[derive(Clone, Copy, Debug, PartialEq, Eq)]
 pub struct Passed {
     pub run: Run,
     pub next: usize,
@@ -74,47 +75,22 @@ fn pass(
     let mut run = run;
     let mut next = 0;
     loop {
+        let start = Reach {
+            run,
+            next,
+            out: 0,
+            err: 0,
+        };
         let filled = fill(
-            Reach {
-                run,
-                next,
-                out: 0,
-                err: 0,
-            },
-            all,
-            names,
-            texts,
-            lens,
-            plans,
-            filed,
-            name,
-            text,
-            answers,
-            values,
-            held,
-            waiting,
-            input,
-            out,
-            err,
+            start, all, names, texts, lens, plans, filed, name, text, answers, values, held,
+            waiting, input, out, err,
         );
         let reach = filled.reach;
         run = reach.run;
         next = reach.next;
-        let a = reach.out;
-        let b = reach.err;
-        if !write_both(clock, to, errors, &out[..a], &err[..b]) {
-            return Passed {
-                run,
-                next,
-                going: false,
-            };
-        }
-        if filled.used {
-            return Passed {
-                run,
-                next,
-                going: true,
-            };
+        let going = write_both(clock, to, errors, &out[..reach.out], &err[..reach.err]);
+        if !going || filled.used {
+            return Passed { run, next, going };
         }
     }
 }
@@ -137,7 +113,7 @@ fn obey(
     to: &mut impl io::Write,
     errors: &mut impl io::Write,
     run: Run,
-    read: Read,
+    read: Result<usize, Errno>,
     all: &mut [u8],
     names: &mut [u8],
     texts: &mut [usize],
@@ -160,7 +136,8 @@ fn obey(
     ensures { Obeys (desk_of run (memory_of all.old names.old texts.old lens.old plans.old filed.old name.old text.old answers.old values.old held.old) waiting.old) read input.now (desk_of result.run (memory_of all.new names.new texts.new lens.new plans.new filed.new name.new text.new answers.new values.new held.new) waiting.new) result.next result.going }
 {
     match read {
-        Read::Bytes { n } => pass(
+        Ok(0) => ended(run),
+        Ok(n) => pass(
             clock,
             to,
             errors,
@@ -181,8 +158,7 @@ fn obey(
             out,
             err,
         ),
-        Read::End => ended(run),
-        Read::Failed { error } => {
+        Err(error) => {
             complain(clock, errors, b"bench: standard input", error);
             ended(run)
         }
@@ -215,7 +191,10 @@ fn begun(
     }
 }
 
-// Reads and obeys until the input ends. A proved loop has to end too: this one ends after 2^47 reads.
+// A proved loop has to end: that of the reads ends after so many, which are 2^47.
+const TURNS: u64 = 0x8000_0000_0000;
+
+// Reads and obeys until the input ends.
 pub fn run(
     clock: &impl Clock,
     from: &mut impl io::Read,
@@ -243,8 +222,7 @@ pub fn run(
     let mut run = begun(
         all, names, texts, lens, plans, filed, name, text, answers, values, held, &waiting,
     );
-    let mut turns = 0x8000_0000_0000u64;
-    while 0 < turns {
+    for _ in 0..TURNS {
         let read = read_some(clock, from, input);
         let passed = obey(
             clock,
@@ -272,6 +250,5 @@ pub fn run(
             return;
         }
         run = passed.run;
-        turns -= 1;
     }
 }

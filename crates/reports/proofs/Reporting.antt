@@ -3,20 +3,16 @@ use Prim.Native.Nat.{ℕ, ◌+◌, ◌^◌, ◌≤◌, ◌<◌}
 use mathlib.Core.Path.{◌≡◌, refl}
 use mathlib.Core.List.{List, [], ◌∷◌, ◌++◌, append_assoc}
 use native.Mathlib.Omega.{arith}
-use denote.Enum.Declared.{tag_of}
-use types.Run.{OneOf, miss}
 use lib.ListN.{length}
+use Rattle.std.specs.Prelude.{Result, Ok, Err}
 use Rattle.paper.specs.Byte.{decimal}
 use Rattle.paper.specs.Refusal as R
 use Rattle.paper.specs.Program.{spaced, err_of}
 use Rattle.paper.proofs.Number.{decimal_is_within}
 use Rattle.command.specs.View.{refusal_of}
 use Rattle.command.specs.Answer.{Reports}
-use Rattle.command.specs.contracts.Refusal as Tag
 use Rattle.command.specs.declared.Refusal.{Refusal}
 use Rattle.command.specs.declared.Refusal.TheVariants as W
-use Rattle.command.specs.declared.Answer.{Answer}
-use Rattle.command.specs.declared.Answer.TheVariants as A
 use Rattle.text.specs.Write.{Writes}
 use Rattle.text.proofs.Written.{writes_none, writes_then}
 use Rattle.command.specs.Numbered.{first, number_of}
@@ -67,14 +63,14 @@ report_two old at k mid a more b line new r why e p q s =
     rw e (simp append_assoc (simp append_assoc at whole))
 
 -- an accepted answer adds nothing
-pub report_none : (old : List ℕ) (at k : ℕ) (answer : Answer) (len : ℕ) → answer ≡ A.Accepted len → at + 64 ≤ length old
+pub report_none : (old : List ℕ) (at k : ℕ) (answer : Result ℕ Refusal) (len : ℕ) → answer ≡ Ok len → at + 64 ≤ length old
     → (p : R.Answer) → Reports answer p → Writes old at (err_of k p) old at
 unfolding Reports err_of
 report_none old at k answer len e h (R.accepted bytes) m = writes_none old at (omega arith)
 report_none old at k answer len e h (R.refused r) m = absurd (rw e at m)
 
 -- a refusal adds its line
-pub report_line : (old : List ℕ) (at k : ℕ) (answer : Answer) (why : Refusal) (new : List ℕ) (r : ℕ) → answer ≡ A.Refused why
+pub report_line : (old : List ℕ) (at k : ℕ) (answer : Result ℕ Refusal) (why : Refusal) (new : List ℕ) (r : ℕ) → answer ≡ Err why
     → Writes old at (err_of k (R.refused (refusal_of why))) new r → (p : R.Answer) → Reports answer p → Writes old at (err_of k p) new r
 unfolding Reports err_of
 report_line old at k answer why new r e w (R.accepted bytes) m = absurd (rw e at m)

@@ -5,6 +5,8 @@ use mathlib.Core.List.{List, ◌++◌, append_assoc}
 use native.Mathlib.Omega.{arith}
 use lib.ListN.{length, take, drop, length-append, length-take, length-drop, take-append-drop}
 use lib.Seq.{drop-append-le, drop-drop}
+use Rattle.std.specs.Prelude.{Result, Ok, Err}
+use Rattle.std.specs.Result.{result_unwrap_or}
 use Rattle.paper.specs.Refusal as R
 use Rattle.paper.specs.Bench.{Bench, hear, take_set}
 use Rattle.paper.specs.Calls.{line, taking, called}
@@ -15,25 +17,19 @@ use Rattle.paper.proofs.Alone.{AtDesk, call_at_desk}
 use Rattle.command.specs.View.{width}
 use Rattle.command.specs.Answer.{Reports, Meets}
 use Rattle.command.specs.declared.Refusal.{Refusal}
-use Rattle.command.specs.declared.Answer.{Answer}
-use Rattle.command.specs.declared.Answer.TheVariants as A
 use Rattle.text.specs.Write.{written, Writes}
 use Rattle.call.specs.Call.{Memory}
 use Rattle.tablets.specs.Calls.{packed_class, HearsLine, TakesSet}
 use Rattle.tablets.proofs.Leading.{hears_on, takes_on}
 use Rattle.reports.specs.Said.{Lone, Sole, HearsAt, TakesAt}
 
--- the bytes of an accepted answer
-pub bytes_some : (answer : Answer) (len : ℕ) → answer ≡ A.Accepted len → (p : R.Answer) → Reports answer p → len ≡ length (out_of p)
+-- the bytes of an answer: those that an accepted one counts, and of a refusal none
+pub bytes_told : (answer : Result ℕ Refusal) (n : ℕ) → n ≡ result_unwrap_or answer 0 → (p : R.Answer) → Reports answer p → n ≡ length (out_of p)
 unfolding Reports out_of
-bytes_some answer len e (R.accepted bytes) m = rw e at m
-bytes_some answer len e (R.refused r) m = absurd (rw e at m)
-
--- a refusal has none
-pub bytes_none : (answer : Answer) (why : Refusal) → answer ≡ A.Refused why → (p : R.Answer) → Reports answer p → 0 ≡ length (out_of p)
-unfolding Reports out_of
-bytes_none answer why e (R.accepted bytes) m = absurd (rw e at m)
-bytes_none answer why e (R.refused r) m = refl
+bytes_told (Ok len) n e (R.accepted bytes) m = e ∙ m
+bytes_told (Ok len) n e (R.refused r) m = absurd m
+bytes_told (Err why) n e (R.accepted bytes) m = absurd m
+bytes_told (Err why) n e (R.refused r) m = e
 
 -- a lent buffer after a call: its bytes stand at the front
 lent_out : (old : List ℕ) (p : R.Answer) → R.lent old p ≡ out_of p ++ drop (length (out_of p)) old
@@ -87,7 +83,7 @@ abbrev part : List ℕ → ℕ → List ℕ
 part out at = take (at + 10291 - at) (drop at out)
 
 -- a call to which it was lent, and how many bytes the answer says
-module _ (self : Memory) (out : List ℕ) (at : ℕ) (next : Memory) (new : List ℕ) (answer : Answer) (n : ℕ) (h : at + 10291 ≤ length out)
+module _ (self : Memory) (out : List ℕ) (at : ℕ) (next : Memory) (new : List ℕ) (answer : Result ℕ Refusal) (n : ℕ) (h : at + 10291 ≤ length out)
     (z : length new ≡ length (part out at)) (f : (p : R.Answer) → Reports answer p → n ≡ length (out_of p)) where
   -- the room is the paper's
   room : length (part out at) ≡ enough

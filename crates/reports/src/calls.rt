@@ -33,10 +33,7 @@ pub struct Called {
 fn bytes_of(answer: Answer) -> usize
     ensures { (p : R.Answer) → C.Reports answer p → result ≡ length (out_of p) }
 {
-    let Answer::Accepted { len } = answer else {
-        return 0;
-    };
-    len
+    answer.unwrap_or(0)
 }
 
 // The input line of a number is heard, which may be known to be free of bytes below 20H: its reply goes to one buffer, its refusal to
@@ -125,6 +122,5 @@ pub fn take_set(
         held,
         &mut out[at..end],
     );
-    let answer = served.answer;
-    at + bytes_of(answer)
+    at + bytes_of(served.answer)
 }

@@ -7,7 +7,6 @@ ghost use Rattle.command.specs.View.{refusal_of};
 ghost use Rattle.command.specs.Answer.{Reports};
 ghost use Rattle.text.specs.Write.{Writes};
 
-use command::refusals::number_of;
 use command::{Answer, Refusal};
 use text::write::{put, put_decimal};
 
@@ -26,12 +25,12 @@ fn put_report(err: &mut [u8], at: usize, k: usize, why: Refusal) -> usize
     requires { at + 64 ≤ length err.old }
     ensures { Writes err.old at (err_of k (R.refused (refusal_of why))) err.new result }
 {
-    let a = put_number(err, at, k, 32);
+    let a = put_number(err, at, k, b' ');
     let Refusal::Unsound { line } = why else {
-        return put_number(err, a, number_of(why), 10);
+        return put_number(err, a, usize::from(why), b'\n');
     };
-    let b = put_number(err, a, 9, 32);
-    put_number(err, b, line, 10)
+    let b = put_number(err, a, 9, b' ');
+    put_number(err, b, line, b'\n')
 }
 
 // What an answer adds to the report: nothing where it is no refusal.
@@ -39,7 +38,7 @@ pub fn put_refusal(err: &mut [u8], at: usize, k: usize, answer: Answer) -> usize
     requires { at + 64 ≤ length err.old }
     ensures { (p : R.Answer) → Reports answer p → Writes err.old at (err_of k p) err.new result }
 {
-    let Answer::Refused { why } = answer else {
+    let Err(why) = answer else {
         return at;
     };
     put_report(err, at, k, why)

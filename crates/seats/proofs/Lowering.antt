@@ -4,7 +4,7 @@ use mathlib.Core.Path.{◌≡◌, refl, sym, ◌∙◌, ap}
 use mathlib.Core.List.{List, ◌++◌}
 use native.Mathlib.Omega.{arith}
 use native.Mathlib.Numerals.{add-one}
-use lib.ListN.{length, take, drop, get_or, set, length-set}
+use lib.ListN.{take, drop, get_or, set}
 use lib.Dec.{ltb, eqb}
 use borrow.Author.Tests.{lt-ltb, le-ltb, ltb-true, ltb-false, eqb-true, eqb-false}
 use Rattle.paper.specs.Byte.{when◌then◌else◌}
@@ -27,12 +27,6 @@ module _ (held : List ℕ) (at n size : ℕ) where
       → set (set held (at + 4) (get_or held (at + 4) 0 - 1)) (at + 5) start ≡ lowered_at n size held at
   unfolding lowered_at
   one_follows start l e = rw e (sym (if_true _ _ _ (lt-ltb n (get_or held (at + 4) 0) l)))
-
-  pub one_room : (v : ℕ) → at + 10 ≤ length held → at + 5 < length (set held (at + 4) v)
-  one_room v l = rw (length-set held (at + 4) v) (omega arith)
-
-  pub one_length : (v w : ℕ) → length (set (set held (at + 4) v) (at + 5) w) ≡ length held
-  one_length v w = simp length-set
 
 -- in memory a session follows so
 pub numbers_lowered : (h : ℕ → Held) (k n size : ℕ) → k < 30 → lowered_at n size (numbers_of h) (k * 10) ≡ numbers_of (seat k (lowered n size (h k)) h)
@@ -79,31 +73,19 @@ below_turns n size k h j =
     (λ y. let l = ltb-true j k y in if_true _ _ _ y ∙ sym (if_true _ _ _ (lt-ltb j (suc k) (omega arith))))
     (λ m. let l = ltb-false j k m in if_false _ _ _ m ∙ sym (if_false _ _ _ (le-ltb j (suc k) (omega arith)))))
 
-pub record Lowered (old : List ℕ) (n size : ℕ) (held : List ℕ) (k at : ℕ) : Type 0 where
+pub record Lowered (old : List ℕ) (n size : ℕ) (held : List ℕ) (k : ℕ) : Type 0 where
   pub follows : (h : ℕ → Held) → old ≡ numbers_of h → held ≡ numbers_of (lowered_below n size k h)
-  pub place : at ≡ k * 10
-  pub whole : length held ≡ 300
-  pub inside : k ≤ 30
 
 module _ (old : List ℕ) (n size : ℕ) where
-  pub lowered_begins : length old ≡ 300 → Lowered old n size old 0 0
-  lowered_begins l =
-      record { follows = λ h e. e ∙ ap numbers_of (λ i j. below_start n size h j i); place = refl; whole = l; inside = omega arith }
+  pub lowered_begins : Lowered old n size old 0
+  lowered_begins = record { follows = λ h e. e ∙ ap numbers_of (λ i j. below_start n size h j i) }
 
-  pub lowered_turns : (held new : List ℕ) (k at : ℕ) → Lowered old n size held k at → k < 30 → new ≡ lowered_at n size held at → length new ≡ length held → Lowered old n size new (k + 1) (at + 10)
-  lowered_turns held new k at w l e s =
+  pub lowered_turns : (held new : List ℕ) (k : ℕ) → Lowered old n size held k → k < 30 → new ≡ lowered_at n size held (k * 10) → Lowered old n size new (k + 1)
+  lowered_turns held new k w l e =
       record {
         follows = λ h p.
-            e ∙ rw (w.place, w.follows h p, add-one k) (numbers_lowered (lowered_below n size k h) k n size l ∙ rw (below_here n size k h) (ap numbers_of (λ i j. below_turns n size k h j i)));
-        place = omega (arith, w.place);
-        whole = s ∙ w.whole;
-        inside = omega arith;
+            e ∙ rw (w.follows h p, add-one k) (numbers_lowered (lowered_below n size k h) k n size l ∙ rw (below_here n size k h) (ap numbers_of (λ i j. below_turns n size k h j i)));
       }
 
-  pub lowered_ends : (held : List ℕ) (k at : ℕ) → Lowered old n size held k at → 30 ≤ k → (h : ℕ → Held) → old ≡ numbers_of h → held ≡ numbers_of (λ j. lowered n size (h j))
-  lowered_ends held k at w l h p =
-      let end : k ≡ 30 = omega (arith, w.inside) in
-      rw end at (w.follows h p) ∙ numbers_alike _ _ (below_end n size h)
-
-  pub lowered_room : (held : List ℕ) (k at : ℕ) → Lowered old n size held k at → k < 30 → at + 10 ≤ length held
-  lowered_room held k at w l = omega (arith, w.place, w.whole)
+  pub lowered_ends : (held : List ℕ) (k : ℕ) → Lowered old n size held k → k ≡ 30 → (h : ℕ → Held) → old ≡ numbers_of h → held ≡ numbers_of (λ j. lowered n size (h j))
+  lowered_ends held k w end h p = rw end at (w.follows h p) ∙ numbers_alike _ _ (below_end n size h)

@@ -5,32 +5,14 @@ use mathlib.Core.Bool.{Bool, true, false, not, ◌&&◌, ◌||◌}
 use mathlib.Core.List.{List}
 use native.Mathlib.Omega.{arith}
 use native.Mathlib.Numerals.{add-one}
-use lib.ListN.{length, get_or}
+use lib.ListN.{get_or}
 use lib.Dec.{eqb, leb}
-use borrow.Author.Tests.{eq-eqb, ne_eqb, le-leb, lt-leb, leb-true, leb-false}
+use borrow.Author.Tests.{eq-eqb, ne_eqb, leb-true, leb-false}
 use Rattle.paper.specs.Byte.{between}
 use Rattle.paper.proofs.Test.{either}
 use Rattle.session.specs.declared.state.Held.{Held}
 use Rattle.seats.specs.Seats.{numbers_of, is_at, beside_below}
 use Rattle.seats.proofs.Parted.{tag_at, form_at_place}
-
--- the tests of one session, in the order of the code
-module _ (low high first last tag form : ℕ) where
-  pub tag_below : tag < low → false ≡ (between low high tag && between first last form)
-  unfolding between
-  tag_below l = rw (lt-leb low tag l)
-
-  pub tag_above : low ≤ tag → high < tag → false ≡ (between low high tag && between first last form)
-  unfolding between
-  tag_above l m = rw (le-leb low tag l, lt-leb tag high m)
-
-  pub form_below : low ≤ tag → tag ≤ high → form < first → false ≡ (between low high tag && between first last form)
-  unfolding between
-  form_below l m n = rw (le-leb low tag l, le-leb tag high m, lt-leb first form n)
-
-  pub form_up_to : low ≤ tag → tag ≤ high → first ≤ form → leb form last ≡ (between low high tag && between first last form)
-  unfolding between
-  form_up_to l m n = rw (le-leb low tag l, le-leb tag high m, le-leb first form n)
 
 or_passes : (a : Bool) → (a || true) ≡ true
 or_passes true = refl
@@ -46,55 +28,35 @@ beside_more n (suc m) t test l e =
     (λ o. let above = leb-false n m o in let same : n ≡ suc m = omega arith in rw same at e)
 
 -- no session below a number passes, but perhaps the tablet's own
-pub record Passed (held : List ℕ) (t low high first last k at : ℕ) : Type 0 where
+pub record Passed (held : List ℕ) (t low high first last k : ℕ) : Type 0 where
   pub none : (h : ℕ → Held) → held ≡ numbers_of h → beside_below k t (λ j. is_at low high first last (h j)) ≡ false
-  pub place : at ≡ k * 10
-  pub size : length held ≡ 300
-  pub inside : k ≤ 30
 
 module _ (held : List ℕ) (t low high first last : ℕ) where
-  pub passed_begins : length held ≡ 300 → Passed held t low high first last 0 0
+  pub passed_begins : Passed held t low high first last 0
   unfolding beside_below
-  passed_begins l = record { none = λ h e. refl; place = refl; size = l; inside = omega arith }
+  passed_begins = record { none = λ h e. refl }
 
   -- what is read at a place is what is asked of the session
-  at_place : (k at : ℕ) → at ≡ k * 10 → k < 30 → (h : ℕ → Held) → held ≡ numbers_of h
-      → (between low high (get_or held at 0) && between first last (get_or held (at + 4) 0)) ≡ is_at low high first last (h k)
+  at_place : (k : ℕ) → k < 30 → (h : ℕ → Held) → held ≡ numbers_of h
+      → (between low high (get_or held (k * 10) 0) && between first last (get_or held (k * 10 + 4) 0)) ≡ is_at low high first last (h k)
   unfolding is_at
-  at_place k at e l h p = rw (e, tag_at held h p k l, form_at_place held h p k l)
+  at_place k l h p = rw (tag_at held h p k l, form_at_place held h p k l)
 
-  pub passed_own : (k at : ℕ) → Passed held t low high first last k at → k < 30 → k ≡ t → Passed held t low high first last (k + 1) (at + 10)
+  pub passed_own : (k : ℕ) → Passed held t low high first last k → k ≡ t → Passed held t low high first last (k + 1)
   unfolding beside_below
-  passed_own k at w l e =
-      record {
-        none = λ h p. rw (add-one k, eq-eqb k t e) (w.none h p);
-        place = omega (arith, w.place);
-        size = w.size;
-        inside = omega arith;
-      }
+  passed_own k w e = record { none = λ h p. rw (add-one k, eq-eqb k t e) (w.none h p) }
 
-  pub passed_turns : (k at : ℕ) (r : Bool) → Passed held t low high first last k at → k < 30 → (k ≡ t → ⊥) → r ≡ (between low high (get_or held at 0) && between first last (get_or held (at + 4) 0)) → r ≡ false
-      → Passed held t low high first last (k + 1) (at + 10)
+  pub passed_turns : (k : ℕ) (r : Bool) → Passed held t low high first last k → k < 30 → (k ≡ t → ⊥) → r ≡ (between low high (get_or held (k * 10) 0) && between first last (get_or held (k * 10 + 4) 0)) → r ≡ false
+      → Passed held t low high first last (k + 1)
   unfolding beside_below
-  passed_turns k at r w l o e f =
-      record {
-        none = λ h p. rw (add-one k, ne_eqb k t o, ← at_place k at w.place l h p, ← e, f) (w.none h p);
-        place = omega (arith, w.place);
-        size = w.size;
-        inside = omega arith;
-      }
+  passed_turns k r w l o e f = record { none = λ h p. rw (add-one k, ne_eqb k t o, ← at_place k l h p, ← e, f) (w.none h p) }
 
-  pub passed_found : (k at : ℕ) (r : Bool) → Passed held t low high first last k at → k < 30 → (k ≡ t → ⊥) → r ≡ (between low high (get_or held at 0) && between first last (get_or held (at + 4) 0)) → r ≡ true
+  pub passed_found : (k : ℕ) (r : Bool) → Passed held t low high first last k → k < 30 → (k ≡ t → ⊥) → r ≡ (between low high (get_or held (k * 10) 0) && between first last (get_or held (k * 10 + 4) 0)) → r ≡ true
       → (h : ℕ → Held) → held ≡ numbers_of h → true ≡ beside_below 30 t (λ j. is_at low high first last (h j))
   unfolding beside_below
-  passed_found k at r w l o e f h p =
-      let here : beside_below (suc k) t (λ j. is_at low high first last (h j)) ≡ true = rw (ne_eqb k t o, ← at_place k at w.place l h p, ← e, f) in
+  passed_found k r w l o e f h p =
+      let here : beside_below (suc k) t (λ j. is_at low high first last (h j)) ≡ true = rw (ne_eqb k t o, ← at_place k l h p, ← e, f) in
       sym (beside_more (suc k) 30 t (λ j. is_at low high first last (h j)) (omega arith) here)
 
-  pub passed_ends : (k at : ℕ) → Passed held t low high first last k at → 30 ≤ k → (h : ℕ → Held) → held ≡ numbers_of h → false ≡ beside_below 30 t (λ j. is_at low high first last (h j))
-  passed_ends k at w l h p =
-      let end : k ≡ 30 = omega (arith, w.inside) in
-      sym (rw end at (w.none h p))
-
-  pub passed_room : (k at : ℕ) → Passed held t low high first last k at → k < 30 → at + 10 ≤ length held
-  passed_room k at w l = omega (arith, w.place, w.size)
+  pub passed_ends : (k : ℕ) → Passed held t low high first last k → k ≡ 30 → (h : ℕ → Held) → held ≡ numbers_of h → false ≡ beside_below 30 t (λ j. is_at low high first last (h j))
+  passed_ends k w end h p = sym (rw end at (w.none h p))

@@ -1,6 +1,7 @@
 -- Thirty sessions in memory: their numbers lie one behind the other, ten for each tablet.
-use Rattle.std.specs.Prelude.{ℕ, zero, suc, ◌+◌, ◌-◌, Bool, false, not, ◌&&◌, ◌||◌, List, [], ◌++◌, ltb, eqb, get_or, set}
-use Rattle.std.proofs.Math.Option.{Option, none, some}
+use Rattle.std.specs.Prelude.{ℕ, zero, suc, ◌+◌, ◌-◌, Bool, false, not, ◌&&◌, ◌||◌, List, [], ◌++◌, ltb, eqb, get_or, set, Option, Some, None}
+use Rattle.std.proofs.Math.Option as M
+use Rattle.std.proofs.Math.Option.{none, some}
 use Rattle.paper.specs.Byte.{when◌then◌else◌, between}
 use Rattle.session.specs.Memory.{Session}
 use Rattle.session.specs.declared.state.Held.{Held}
@@ -53,6 +54,11 @@ unfoldable pub with_held : Held → Session → Session
 with_held held s = record { held = held; name = s.name; text = s.text; answers = s.answers; values = s.values }
 
 -- the number that a search gave, 30 for none
-unfoldable pub seat_of : Option ℕ → ℕ
+unfoldable pub seat_of : M.Option ℕ → ℕ
 seat_of none = 30
 seat_of (some k) = k
+
+-- and as the code holds it
+unfoldable pub option_of : M.Option ℕ → Option ℕ
+option_of none = None
+option_of (some k) = Some k

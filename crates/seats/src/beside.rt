@@ -7,22 +7,12 @@ ghost use Rattle.seats.specs.Seats.{numbers_of, is_at, beside_below};
 use crate::numbers::{FORM, TABLETS, WIDTH};
 
 // The session whose numbers begin at a place is in a state from one tag up to another and at a form's number from one up to another.
+#[tactic(auto, using(std::proofs::lemmas::Bool::Decides::nat_tests), unfolding(paper::specs::Byte::between))]
 fn is_at(held: &[usize], at: usize, low: usize, high: usize, first: usize, last: usize) -> bool
     requires { at + 10 ≤ length held.now }
     ensures { result ≡ (between low high (get_or held.now at 0) && between first last (get_or held.now (at + 4) 0)) }
 {
-    let tag = held[at];
-    if tag < low {
-        return false;
-    }
-    if high < tag {
-        return false;
-    }
-    let form = held[at + FORM];
-    if form < first {
-        return false;
-    }
-    form <= last
+    low <= held[at] && held[at] <= high && first <= held[at + FORM] && held[at + FORM] <= last
 }
 
 // Another tablet's session is in a state from one tag up to another and at a form's number from one up to another.
@@ -37,14 +27,10 @@ pub fn is_beside(
     requires { length held.now ≡ 300 }
     ensures { (h : ℕ → Held) → held.now ≡ numbers_of h → result ≡ beside_below 30 t (λ k. is_at low high first last (h k)) }
 {
-    let mut k = 0;
-    let mut at = 0;
-    while k < TABLETS {
-        if k != t && is_at(held, at, low, high, first, last) {
+    for k in 0..TABLETS {
+        if k != t && is_at(held, k * WIDTH, low, high, first, last) {
             return true;
         }
-        k += 1;
-        at += WIDTH;
     }
     false
 }

@@ -5,17 +5,8 @@ ghost use Rattle.seats.specs.Seats.{numbers_of, lowered, lowered_at};
 
 use crate::numbers::{FORM, START, TABLETS, WIDTH};
 
-// A number less another, and 0 below 0.
-fn less(a: usize, b: usize) -> usize
-    ensures { result ≡ a - b }
-{
-    if a < b {
-        return 0;
-    }
-    a - b
-}
-
 // The session whose numbers begin at a place follows.
+#[tactic(auto, using(crate::proofs::Lowering::one_stays, crate::proofs::Lowering::one_follows))]
 fn lower_one(held: &mut [usize], at: usize, n: usize, size: usize)
     requires { at + 10 ≤ length held.old }
     ensures held_after { held.new ≡ lowered_at n size held.old at }
@@ -25,7 +16,7 @@ fn lower_one(held: &mut [usize], at: usize, n: usize, size: usize)
     if form <= n {
         return;
     }
-    let start = less(held[at + START], size);
+    let start = held[at + START].saturating_sub(size);
     held[at + FORM] = form - 1;
     held[at + START] = start;
 }
@@ -36,11 +27,7 @@ pub fn lower(held: &mut [usize], n: usize, size: usize)
     ensures by_index { (h : ℕ → Held) → held.old ≡ numbers_of h → held.new ≡ numbers_of (λ k. lowered n size (h k)) }
     ensures held_len { length held.new ≡ 300 }
 {
-    let mut k = 0;
-    let mut at = 0;
-    while k < TABLETS {
-        lower_one(held, at, n, size);
-        k += 1;
-        at += WIDTH;
+    for k in 0..TABLETS {
+        lower_one(held, k * WIDTH, n, size);
     }
 }

@@ -1,5 +1,5 @@
 // The numbers of a session and of the store as they lie in memory.
-ghost use Rattle.std.specs.Prelude.{◌<◌, ◌≡◌, [], ◌∷◌, length, set};
+ghost use Rattle.std.specs.Prelude.{◌≡◌, [], ◌∷◌, length};
 ghost use Rattle.store.specs.Packed.{Store};
 ghost use Rattle.seats.specs.Numbers.{mode_of, code_of, held_in, filed_in};
 ghost use Rattle.session.specs.declared.state.Held.{Held};
@@ -19,6 +19,7 @@ pub const START: usize = 5;
 pub const PRINTING: usize = 6;
 
 // A state by its four numbers.
+#[tactic(auto, using(crate::proofs::Laid::tags))]
 fn mode_of(tag: usize, a: usize, b: usize, c: usize) -> Mode
     ensures { result ≡ mode_of tag a b c }
 {
@@ -37,6 +38,7 @@ fn mode_of(tag: usize, a: usize, b: usize, c: usize) -> Mode
     }
 }
 
+#[tactic(auto, using(crate::proofs::Laid::reads_held))]
 pub fn held_of(numbers: &[usize]) -> Held
     requires { length numbers.now ≡ 10 }
     ensures { (h : Held) → numbers.now ≡ held_in h → result ≡ h }
@@ -52,6 +54,7 @@ pub fn held_of(numbers: &[usize]) -> Held
     }
 }
 
+#[tactic(auto, using(crate::proofs::Laid::reads_filed))]
 pub fn filed_of(numbers: &[usize]) -> Filed
     requires { length numbers.now ≡ 2 }
     ensures { (s : Store) → numbers.now ≡ filed_in s → result ≡ record { used = s.used; count = s.count } }
@@ -63,7 +66,8 @@ pub fn filed_of(numbers: &[usize]) -> Filed
 }
 
 // The four numbers of a state.
-#[derive(Clone, Copy)]
+// Kept: so they lie in memory, by the definitions code_of, held_in and packed_class and the theorem freed_memory.
+#[derive(Clone, Copy, Debug, PartialEq, Eq)]
 pub struct Code {
     pub tag: usize,
     pub a: usize,
@@ -71,46 +75,33 @@ pub struct Code {
     pub c: usize,
 }
 
+// Those of Idle.
+const ZERO: Code = Code {
+    tag: 0,
+    a: 0,
+    b: 0,
+    c: 0,
+};
+
+#[tactic(auto, unfolding(crate::specs::Numbers::code_of))]
 fn code_of(mode: Mode) -> Code
     ensures { result ≡ code_of mode }
 {
     match mode {
-        Mode::Idle => Code {
-            tag: 0,
-            a: 0,
-            b: 0,
-            c: 0,
-        },
+        Mode::Idle => ZERO,
         Mode::Collecting { lines } => Code {
             tag: 1,
             a: lines,
-            b: 0,
-            c: 0,
+            ..ZERO
         },
-        Mode::Spoiled => Code {
-            tag: 2,
-            a: 0,
-            b: 0,
-            c: 0,
-        },
-        Mode::Opened => Code {
-            tag: 3,
-            a: 0,
-            b: 0,
-            c: 0,
-        },
+        Mode::Spoiled => Code { tag: 2, ..ZERO },
+        Mode::Opened => Code { tag: 3, ..ZERO },
         Mode::Answering { k } => Code {
             tag: 4,
             a: k,
-            b: 0,
-            c: 0,
+            ..ZERO
         },
-        Mode::Ready => Code {
-            tag: 5,
-            a: 0,
-            b: 0,
-            c: 0,
-        },
+        Mode::Ready => Code { tag: 5, ..ZERO },
         Mode::Printing { sets, copies, out } => Code {
             tag: 6,
             a: sets,
@@ -120,43 +111,29 @@ fn code_of(mode: Mode) -> Code
     }
 }
 
-fn put_number(numbers: &mut [usize], at: usize, n: usize)
-    requires { at < length numbers.old }
-    ensures numbers_after { numbers.new ≡ set numbers.old at n }
-    ensures numbers_len_unchanged { length numbers.new ≡ length numbers.old }
-{
-    numbers[at] = n;
-}
-
-fn put_code(numbers: &mut [usize], code: Code)
-    requires { length numbers.old ≡ 10 }
-    ensures numbers_after { numbers.new ≡ set (set (set (set numbers.old 0 code.tag) 1 code.a) 2 code.b) 3 code.c }
-    ensures numbers_len { length numbers.new ≡ 10 }
-{
-    put_number(numbers, 0, code.tag);
-    put_number(numbers, 1, code.a);
-    put_number(numbers, 2, code.b);
-    put_number(numbers, 3, code.c);
-}
-
+#[tactic(auto, unfolding(crate::specs::Numbers::held_in))]
 pub fn put_held(numbers: &mut [usize], held: Held)
     requires { length numbers.old ≡ 10 }
     ensures { numbers.new ≡ held_in held }
 {
-    let mode = held.mode;
-    put_code(numbers, code_of(mode));
-    put_number(numbers, 4, held.form);
-    put_number(numbers, 5, held.start);
-    put_number(numbers, 6, held.size);
-    put_number(numbers, 7, held.len);
-    put_number(numbers, 8, held.drafted);
-    put_number(numbers, 9, held.given);
+    let Code { tag, a, b, c } = code_of(held.mode);
+    numbers.copy_from_slice(&[
+        tag,
+        a,
+        b,
+        c,
+        held.form,
+        held.start,
+        held.size,
+        held.len,
+        held.drafted,
+        held.given,
+    ]);
 }
 
 pub fn put_filed(numbers: &mut [usize], filed: Filed)
     requires { length numbers.old ≡ 2 }
     ensures { numbers.new ≡ filed.used ∷ filed.count ∷ [] }
 {
-    numbers[0] = filed.used;
-    numbers[1] = filed.count;
+    numbers.copy_from_slice(&[filed.used, filed.count]);
 }

@@ -7,21 +7,18 @@ use denote.Enum.Declared.{tag_of}
 use mir.Val.{has_key}
 use types.Run.{OneOf, miss}
 use lib.Dec.{T, eqb}
+use Rattle.std.specs.Prelude.{Result, Ok, Err}
 use Rattle.paper.specs.Command.{FormLine}
 use Rattle.paper.specs.Form.{Form}
 use Rattle.paper.specs.Refusal as R
 use Rattle.paper.specs.Bench as P
 use Rattle.command.specs.View.{refusal_of}
 use Rattle.command.specs.Answer.{Reports}
-use Rattle.command.specs.declared.Answer.{Answer}
-use Rattle.command.specs.declared.Answer.TheVariants as A
 use Rattle.command.specs.declared.Refusal.{Refusal}
-use Rattle.session.specs.Memory.{Session, Shelf, session_of, drafts, drafting, holds, holding, packed_session, packed_shelf}
+use Rattle.session.specs.Memory.{Session, Shelf, drafts, drafting, holds, holding, packed_session, packed_shelf}
 use Rattle.session.specs.Outcome.{Does, Refuses}
 use Rattle.session.specs.contracts.state.Mode as Mode
 use Rattle.session.specs.declared.state.Mode.TheVariants as M
-use Rattle.session.specs.declared.state.Held.{Held}
-use Rattle.session.specs.declared.state.Turn.{Turn}
 
 -- a session is in one of the states of these tags, which are 0 to 6 in the order of `Mode`
 abbrev pub Tagged : List ℕ → Session → Type 0
@@ -104,18 +101,18 @@ seen k session fs n st e h = subst (λ x. ByTag x st) h (subst (λ x. ByTag (tag
 
 -- an accepted step with nothing to write
 pub does_done : (session : Session) (shelf : Shelf) (fs : List Form) (n : ℕ) (st : P.Session) (b : List ℕ) → session ≡ packed_session fs n st → shelf ≡ packed_shelf fs
-    → Does (P.done fs st) n b b (A.Accepted 0) session shelf
+    → Does (P.done fs st) n b b (Ok 0) session shelf
 unfolding P.done P.outcome R.lent Reports
 does_done session shelf fs n st b e f = record { meets = record { reports = refl; buffer = refl }; session = e; shelf = f }
 
 -- a refused step
 pub does_refused : (why : Refusal) (session : Session) (shelf : Shelf) (fs : List Form) (n : ℕ) (st : P.Session) (b : List ℕ) → session ≡ packed_session fs n st → shelf ≡ packed_shelf fs
-    → Does (P.outcome (R.refused (refusal_of why)) fs st) n b b (A.Refused why) session shelf
+    → Does (P.outcome (R.refused (refusal_of why)) fs st) n b b (Err why) session shelf
 unfolding P.outcome R.lent Reports
 does_refused why session shelf fs n st b e f = record { meets = record { reports = refl; buffer = refl }; session = e; shelf = f }
 
 -- a refused line, whatever the shelf
-pub does_refuse : (why : Refusal) (session : Session) (answer : Answer) (next : Session) → Refuses why session answer next
+pub does_refuse : (why : Refusal) (session : Session) (answer : Result ℕ Refusal) (next : Session) → Refuses why session answer next
     → (shelf : Shelf) (fs : List Form) (n : ℕ) (st : P.Session) (b : List ℕ) → session ≡ packed_session fs n st → shelf ≡ packed_shelf fs
     → Does (P.refuse (refusal_of why) fs st) n b b answer next shelf
 unfolding P.refuse
@@ -145,9 +142,6 @@ stays session fs n (P.answering ls given) h e = absurd (wrong (0 ∷ 2 ∷ 3 ∷
 stays session fs n (P.ready ls given) h e = e
 stays session fs n (P.printing ls given k c i) h e = e
 
--- a refusal by its numbers and what they leave
-pub refuses : (why : Refusal) (session : Session) (turn : Turn) (held : Held) (name text answers values : List ℕ) → turn ≡ record { answer = A.Refused why; held = held }
-    → ((fs : List Form) (n : ℕ) (st : P.Session) → session ≡ packed_session fs n st → session_of held name text answers values ≡ packed_session fs n (P.after_refusal st))
-    → Refuses why session turn.answer (session_of turn.held name text answers values)
-refuses why session turn held name text answers values t l =
-    record { says = ap (λ x. x.answer) t; leaves = λ fs n st e. ap (λ x. session_of x.held name text answers values) t ∙ l fs n st e }
+-- a refusal by what it leaves
+pub refuses : (why : Refusal) (session next : Session) → ((fs : List Form) (n : ℕ) (st : P.Session) → session ≡ packed_session fs n st → next ≡ packed_session fs n (P.after_refusal st)) → Refuses why session (Err why) next
+refuses why session next l = record { says = refl; leaves = l }

@@ -2,12 +2,13 @@
 use Prim.Native.Nat.{ℕ}
 use mathlib.Core.Path.{◌≡◌, refl}
 use mathlib.Core.List.{List, [], ◌∷◌}
+use Rattle.std.specs.Prelude.{Result}
 use Rattle.paper.specs.Command.{Command, FormLine, Filing, start, finish, inform, recall, delete, keep, file, new, ask, print}
 use Rattle.paper.specs.Form.{Form}
 use Rattle.paper.specs.Refusal.{not_now}
 use Rattle.paper.specs.Bench as P
 use Rattle.command.specs.View.{refusal_of}
-use Rattle.command.specs.declared.Answer.{Answer}
+use Rattle.command.specs.declared.Refusal.{Refusal}
 use Rattle.command.specs.declared.Refusal.TheVariants as W
 use Rattle.session.specs.Memory.{Session, drafts, drafting, holds, holding, packed_session, if_idle, after_filing, after_command}
 use Rattle.session.specs.Outcome.{Minds, Refuses, obey}
@@ -19,7 +20,7 @@ pub record NotTaken (session : Session) (c : Command) : Type 0 where
   pub stays : (fs : List Form) (n : ℕ) (st : P.Session) → session ≡ packed_session fs n st → after_command n fs st c ≡ n
 
 -- a step that refuses it obeys it, beside every shelf
-pub minds_not_now : (session : Session) (c : Command) (answer : Answer) (next : Session) → Refuses W.NotNow session answer next → NotTaken session c → Minds session c answer next
+pub minds_not_now : (session : Session) (c : Command) (answer : Result ℕ Refusal) (next : Session) → Refuses W.NotNow session answer next → NotTaken session c → Minds session c answer next
 unfolding refusal_of
 minds_not_now session c answer next r t =
     record {

@@ -2,9 +2,9 @@
 use Prim.Native.Nat.{ℕ, ◌+◌, ◌-◌, ◌≤◌}
 use mathlib.Core.Path.{◌≡◌, refl, ◌∙◌}
 use mathlib.Core.Bool.{true, false≢true}
-use mathlib.Core.List.{List, [], ◌∷◌, append-nil}
+use mathlib.Core.List.{List, [], ◌++◌, ◌∷◌}
 use native.Mathlib.Omega.{arith}
-use lib.ListN.{length, take, drop, replicate, length-replicate, replicate-append-replicate, drop_of_length-le}
+use lib.ListN.{length, take, drop, replicate, length-replicate, replicate-append-replicate}
 use lib.Seq.{take_all, take-append_seam, drop_at}
 use lib.Dec.{leb}
 use borrow.Author.Tests.{leb-true}
@@ -15,10 +15,9 @@ use Rattle.paper.specs.Set.{fits}
 use Rattle.paper.specs.Bench as P
 use Rattle.paper.specs.State.{Sane, Storable, fitting}
 use Rattle.paper.proofs.Law.{and_left, and_right}
-use Rattle.text.specs.Write.{Writes, written, padded}
+use Rattle.text.specs.Write.{padded}
 use Rattle.text.proofs.Padded.{padded_length}
 use Rattle.command.specs.View.{width}
-use Rattle.store.specs.Gap.{zeros}
 use Rattle.set.specs.Answers.{answers_text, values_in}
 use Rattle.set.proofs.Keeping.{from_length}
 use Rattle.session.specs.Memory.{Session, drafts, drafting, holds, holding, packed_session}
@@ -86,39 +85,27 @@ pub kept_used : (session : Session) → Kept session → Used session
 kept_used session k = rw k.at.here (used_state k.at.forms k.at.number k.at.state k.at.sane)
 
 -- used bytes lie within their memory
-pub fills_inside : (size : ℕ) (memory : List ℕ) (used : ℕ) → Fills size memory used → 0 + used ≤ length memory
+pub fills_inside : (size : ℕ) (memory : List ℕ) (used : ℕ) → Fills size memory used → used ≤ length memory
 fills_inside size memory used f = rw (f.is, padded_length size f.bytes f.room) (omega (arith, f.counts, f.room))
 
 -- where they are wiped nothing is used
-pub wiped : (size : ℕ) (memory : List ℕ) (used : ℕ) (new : List ℕ) → Fills size memory used → Writes memory 0 (zeros used) new (0 + used) → new ≡ padded size []
-unfolding written padded zeros
+pub wiped : (size : ℕ) (memory : List ℕ) (used : ℕ) (new : List ℕ) → Fills size memory used → new ≡ replicate used 0 ++ drop used memory → new ≡ padded size []
+unfolding padded
 wiped size memory used new f w =
-    let count : length {A = ℕ} (replicate used 0) ≡ used = length-replicate used 0 in
-    let place : 0 + length {A = ℕ} (replicate used 0) ≡ length f.bytes = omega (arith, count, f.counts) in
-    let rest : drop (0 + length {A = ℕ} (replicate used 0)) memory ≡ replicate (size - length f.bytes) 0 =
-    rw (place, f.is) (drop_at f.bytes (replicate (size - length f.bytes) 0) (length f.bytes) refl) in
-    let sum : used + (size - length f.bytes) ≡ size - 0 = omega (arith, f.counts, f.room) in
-    w.is ∙ rw (rest, replicate-append-replicate, sum)
-
--- memory that is wiped from end to end
-wiped_whole : (size : ℕ) (memory new : List ℕ) → length memory ≡ size → Writes memory 0 (zeros size) new (0 + size) → new ≡ replicate size 0
-unfolding written zeros
-wiped_whole size memory new h w =
-    let count : length {A = ℕ} (replicate size 0) ≡ size = length-replicate size 0 in
-    let none : drop (0 + length {A = ℕ} (replicate size 0)) memory ≡ [] = drop_of_length-le memory {i = 0 + length {A = ℕ} (replicate size 0)} (omega (arith, h, count)) in
-    w.is ∙ rw (none, append-nil)
+    let place : used ≡ length f.bytes = f.counts in
+    let sum : length f.bytes + (size - length f.bytes) ≡ size - 0 = omega (arith, f.room) in
+    w ∙ rw (place, f.is, drop_at f.bytes (replicate (size - length f.bytes) 0) (length f.bytes) refl, replicate-append-replicate, sum)
 
 -- a session whose used bytes are wiped
 pub fresh_wiped : (session : Session) (mode : Mode) (name text answers values : List ℕ) → Used session
-    → Writes session.name 0 (zeros session.held.len) name (0 + session.held.len)
-    → Writes session.text 0 (zeros session.held.drafted) text (0 + session.held.drafted)
-    → Writes session.answers 0 (zeros session.held.given) answers (0 + session.held.given)
-    → Writes session.values 0 (zeros 104) values (0 + 104)
+    → name ≡ replicate session.held.len 0 ++ drop session.held.len session.name
+    → text ≡ replicate session.held.drafted 0 ++ drop session.held.drafted session.text
+    → answers ≡ replicate session.held.given 0 ++ drop session.held.given session.answers
+    → values ≡ replicate (length session.values) 0
     → record { held = record { mode = mode; form = 0; start = 0; size = 0; len = 0; drafted = 0; given = 0 }; name = name; text = text; answers = answers; values = values } ≡ drafting mode [] []
 unfolding drafting drafts
 fresh_wiped session mode name text answers values u a b c d =
     let p = wiped 16 _ _ name u.name a in
     let q = wiped 1024 _ _ text u.text b in
     let r = wiped 1700 _ _ answers u.answers c in
-    let s = wiped_whole 104 _ values u.values d in
-    rw (p, q, r, s)
+    rw (p, q, r, d, u.values)

@@ -16,6 +16,7 @@ use Rattle.session.specs.declared.name.Name.{Name}
 use Rattle.session.specs.declared.state.Mode.{Mode}
 use Rattle.session.specs.declared.state.Mode.TheVariants as M
 use Rattle.session.specs.declared.state.Held.{Held}
+use Rattle.session.specs.declared.state.Session.{Session as Lent}
 
 -- a session in memory: its numbers; the draft's name and text; the answers and what they are worth
 pub record Session : Type 0 where
@@ -28,6 +29,17 @@ pub record Session : Type 0 where
 -- the session that the numbers and the slices are
 abbrev pub session_of : Held → (name text answers values : List ℕ) → Session
 session_of held name text answers values = record { held = held; name = name; text = text; answers = answers; values = values }
+
+-- the session that lent slices are
+abbrev pub lent : Lent → Session
+lent l = session_of l.held l.name.now l.text.now l.answers.now l.values.now
+
+-- the slices are the same
+pub record SameLoan (l m : Lent) : Type 0 where
+  pub name : l.name.ghost_name ≡ m.name.ghost_name
+  pub text : l.text.ghost_name ≡ m.text.ghost_name
+  pub answers : l.answers.ghost_name ≡ m.answers.ghost_name
+  pub values : l.values.ghost_name ≡ m.values.ghost_name
 
 -- a name of at most sixteen bytes
 unfoldable pub named : List ℕ → Name

@@ -1,5 +1,5 @@
 -- What a step promises: the paper's answer, the memory of the paper's next state, and the lent buffer.
-use Rattle.std.specs.Prelude.{ℕ, ◌≤◌, ◌<◌, ◌≡◌, true, ◌||◌, List, [], length, leb, ltb, eqb}
+use Rattle.std.specs.Prelude.{ℕ, ◌≤◌, ◌<◌, ◌≡◌, true, ◌||◌, List, [], length, leb, ltb, eqb, Result, Ok, Err}
 use Rattle.paper.specs.Byte.{when◌then◌else◌, same}
 use Rattle.paper.specs.Command as C
 use Rattle.paper.specs.Command.{Command, FormLine, keep, is_name, star}
@@ -11,8 +11,6 @@ use Rattle.paper.specs.Set.{set_of}
 use Rattle.paper.specs.State.{Sane}
 use Rattle.command.specs.View.{width, view_of, text_in, Holds}
 use Rattle.command.specs.Answer.{Meets}
-use Rattle.command.specs.declared.Answer.{Answer}
-use Rattle.command.specs.declared.Answer.TheVariants as A
 use Rattle.command.specs.declared.Refusal.{Refusal}
 use Rattle.command.specs.declared.Refusal.TheVariants as W
 use Rattle.command.specs.declared.Command as L
@@ -65,7 +63,7 @@ pub record Used (session : Session) : Type 0 where
   pub values : length session.values ≡ 104
 
 -- a step gives what the paper says, with form n held open behind it
-pub record Does (o : P.Outcome) (n : ℕ) (old new : List ℕ) (answer : Answer) (next : Session) (more : Shelf) : Type 0 where
+pub record Does (o : P.Outcome) (n : ℕ) (old new : List ℕ) (answer : Result ℕ Refusal) (next : Session) (more : Shelf) : Type 0 where
   pub meets : Meets o.answer old new answer
   pub session : next ≡ packed_session o.next.forms n o.next.session
   pub shelf : more ≡ packed_shelf o.next.forms
@@ -81,37 +79,37 @@ obey room fs (P.ready ls given) c = P.in_ready fs ls given c
 obey room fs (P.printing ls given n k i) c = P.in_printing fs (P.printing ls given n k i) c
 
 -- a command is obeyed
-pub record Obeys (session : Session) (shelf : Shelf) (c : Command) (old new : List ℕ) (answer : Answer) (next : Session) (more : Shelf) : Type 0 where
+pub record Obeys (session : Session) (shelf : Shelf) (c : Command) (old new : List ℕ) (answer : Result ℕ Refusal) (next : Session) (more : Shelf) : Type 0 where
   pub obeys : (a : At session shelf)
       → Does (obey (length old) a.forms a.state c) (after_command a.number a.forms a.state c) old new answer next more
 
 -- a command is obeyed, and neither the shelf nor a buffer is touched
-pub record Heeds (session : Session) (shelf : Shelf) (c : Command) (answer : Answer) (next : Session) : Type 0 where
+pub record Heeds (session : Session) (shelf : Shelf) (c : Command) (answer : Result ℕ Refusal) (next : Session) : Type 0 where
   pub heeds : (b : List ℕ) → Obeys session shelf c b b answer next shelf
 
 -- the same beside every shelf
-pub record Minds (session : Session) (c : Command) (answer : Answer) (next : Session) : Type 0 where
+pub record Minds (session : Session) (c : Command) (answer : Result ℕ Refusal) (next : Session) : Type 0 where
   pub minds : (shelf : Shelf) → Heeds session shelf c answer next
 
 -- beside every shelf with this store
-pub record Consults (session : Session) (store : Store) (c : Command) (answer : Answer) (next : Session) : Type 0 where
+pub record Consults (session : Session) (store : Store) (c : Command) (answer : Result ℕ Refusal) (next : Session) : Type 0 where
   pub consults : (plans : List ℕ) → Heeds session (record { store = store; plans = plans }) c answer next
 
 -- and beside every shelf with these plans
-pub record Follows (session : Session) (plans : List ℕ) (c : Command) (answer : Answer) (next : Session) : Type 0 where
+pub record Follows (session : Session) (plans : List ℕ) (c : Command) (answer : Result ℕ Refusal) (next : Session) : Type 0 where
   pub follows : (store : Store) → Heeds session (record { store = store; plans = plans }) c answer next
 
 -- `FI` is obeyed beside every shelf with this store
-pub record Informs (session : Session) (store : Store) (old new : List ℕ) (answer : Answer) (next : Session) : Type 0 where
+pub record Informs (session : Session) (store : Store) (old new : List ℕ) (answer : Result ℕ Refusal) (next : Session) : Type 0 where
   pub informs : (plans : List ℕ) → Obeys session (record { store = store; plans = plans }) (C.file C.inform) old new answer next (record { store = store; plans = plans })
 
 -- a command is obeyed without a word for the lent buffer
-pub record Files (session : Session) (shelf : Shelf) (c : Command) (answer : Answer) (next : Session) (more : Shelf) : Type 0 where
+pub record Files (session : Session) (shelf : Shelf) (c : Command) (answer : Result ℕ Refusal) (next : Session) (more : Shelf) : Type 0 where
   pub files : (b : List ℕ) → Obeys session shelf c b b answer next more
 
 -- a line is refused: its number, and what it leaves of a session
-pub record Refuses (why : Refusal) (session : Session) (answer : Answer) (next : Session) : Type 0 where
-  pub says : answer ≡ A.Refused why
+pub record Refuses (why : Refusal) (session : Session) (answer : Result ℕ Refusal) (next : Session) : Type 0 where
+  pub says : answer ≡ Err why
   pub leaves : (fs : List Form) (n : ℕ) (st : P.Session) → session ≡ packed_session fs n st → next ≡ packed_session fs n (P.after_refusal st)
 
 -- the form that is held open behind a line
@@ -124,17 +122,17 @@ unfoldable pub after_line : ℕ → List Form → P.Session → List ℕ → ℕ
 after_line n fs st s = after_reading n fs st (read width s)
 
 -- a line is heard
-pub record Hears (session : Session) (shelf : Shelf) (s old new : List ℕ) (answer : Answer) (next : Session) (more : Shelf) : Type 0 where
+pub record Hears (session : Session) (shelf : Shelf) (s old new : List ℕ) (answer : Result ℕ Refusal) (next : Session) (more : Shelf) : Type 0 where
   pub hears : (a : At session shelf)
       → Does (P.heard width (length old) a.forms a.state s) (after_line a.number a.forms a.state s) old new answer next more
 
 -- a line is heard beside every shelf with these plans, and no buffer is touched
-pub record Answers (session : Session) (plans s : List ℕ) (answer : Answer) (next : Session) : Type 0 where
+pub record Answers (session : Session) (plans s : List ℕ) (answer : Result ℕ Refusal) (next : Session) : Type 0 where
   pub answers : (store : Store) (b : List ℕ)
       → Hears session (record { store = store; plans = plans }) s b b answer next (record { store = store; plans = plans })
 
 -- a set is taken beside every shelf with these texts and plans
-pub record Takes (session : Session) (all plans old new : List ℕ) (answer : Answer) (next : Session) : Type 0 where
+pub record Takes (session : Session) (all plans old new : List ℕ) (answer : Result ℕ Refusal) (next : Session) : Type 0 where
   pub takes : (shelf : Shelf) → shelf.store.text ≡ all → shelf.plans ≡ plans → (a : At session shelf)
       → Does (P.taken (length old) a.forms a.state) a.number old new answer next shelf
 
@@ -150,7 +148,7 @@ unfoldable pub handed : ℕ → List ℕ → R.Answer
 handed room bytes = when leb (length bytes) room then R.accepted bytes else R.refused R.too_short
 
 -- a set is handed on
-pub record Gives (text answers plan values : List ℕ) (copies i : ℕ) (old new : List ℕ) (r : Answer) : Type 0 where
+pub record Gives (text answers plan values : List ℕ) (copies i : ℕ) (old new : List ℕ) (r : Result ℕ Refusal) : Type 0 where
   pub gives : (t : Taking text answers plan values copies i)
       → Meets (handed (length old) (set_of t.form.filled.lines t.form.filled.given copies i)) old new r
 
@@ -209,7 +207,7 @@ pub record Removes (shelf : Shelf) (name : Name) (less : Shelf) : Type 0 where
 -- a record that was read is a line for a form
 pub record Keeps (s : List ℕ) (c : L.Command) : Type 0 where
   pub line : FormLine
-  pub is : view_of s c ≡ command (keep line)
+  pub is : view_of s (Ok c) ≡ command (keep line)
 
 -- a session that collects a form
 pub record Collects (session : Session) : Type 0 where
@@ -222,5 +220,5 @@ pub record Drafted (session : Session) (shelf : Shelf) : Type 0 where
   pub collects : Collects session
 
 -- what `FE` gives, once nothing is left in the session
-pub record Shelves (session : Session) (shelf : Shelf) (answer : Answer) (more : Shelf) : Type 0 where
+pub record Shelves (session : Session) (shelf : Shelf) (answer : Result ℕ Refusal) (more : Shelf) : Type 0 where
   pub shelves : (next : Session) → next ≡ drafting M.Idle [] [] → Files session shelf (C.file C.finish) answer next more

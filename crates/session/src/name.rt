@@ -7,6 +7,7 @@ use text::read::Span;
 use text::write::literal_at;
 
 // A name in sixteen bytes, 0 behind it.
+// Kept: bytes with their number beside them, since no memory is allocated here.
 #[derive(Clone, Copy)]
 pub struct Name {
     pub bytes: [u8; 16],
@@ -23,6 +24,7 @@ pub fn name_of(s: &[u8], string: Span) -> Name
     let mut bytes = [0u8; 16];
     let mut len = 0;
     let mut i = string.start;
+    // Kept: a turn goes over one byte or, at a backslash, over two, so no range or iterator gives the places.
     while i < end {
         let literal = literal_at(s, i);
         bytes[len] = s[literal];

@@ -11,11 +11,7 @@ pub fn hand(reply: &mut [u8], bytes: &[u8]) -> Answer
     ensures { Meets (handed (length reply.old) bytes.now) reply.old reply.new result }
 {
     if reply.len() < bytes.len() {
-        return Answer::Refused {
-            why: Refusal::TooShort,
-        };
+        return Err(Refusal::TooShort);
     }
-    Answer::Accepted {
-        len: put_all(reply, 0, bytes),
-    }
+    Ok(put_all(reply, 0, bytes))
 }

@@ -1,18 +1,16 @@
-// The numbers of a session, and what becomes of it where a line is refused.
-ghost use Rattle.std.specs.Prelude.{◌≡◌, []};
-ghost use Rattle.command.specs.declared.Answer.TheVariants.{Accepted, Refused};
-ghost use Rattle.session.specs.Memory.{session_of, drafting};
+// A session in memory that is lent, and what becomes of it where a line is refused.
+ghost use Rattle.std.specs.Prelude.{◌≡◌, ◌≤◌, ◌++◌, [], length, take, drop, replicate};
+ghost use Rattle.session.specs.Memory.{lent, SameLoan, drafting};
 ghost use Rattle.session.specs.Outcome.{Kept, Used, Refuses};
 
 use command::{Answer, Refusal};
-use store::gap::{wipe_bytes, wipe_numbers};
 
 // The numbers that the values take: four for each of ten counters and sixteen variables.
 pub const VALUES: usize = 104;
 
 // The states, with the numbers that each needs: the lines kept so far, the answers given, the sets and copies asked for and the sets
 // that are out.
-#[derive(Clone, Copy)]
+#[derive(Clone, Copy, Debug, PartialEq, Eq)]
 pub enum Mode {
     Idle,
     Collecting {
@@ -44,94 +42,72 @@ pub struct Held {
     pub given: usize,
 }
 
-// What a line gives that leaves the stored forms as they are.
-#[derive(Clone, Copy)]
-pub struct Turn {
-    pub answer: Answer,
+// A session in memory that is lent: its numbers, the draft's name and text, and the answers with what they are worth.
+#[derive(Drop)]
+pub struct Session<'a> {
     pub held: Held,
+    pub name: &'a mut [u8],
+    pub text: &'a mut [u8],
+    pub answers: &'a mut [u8],
+    pub values: &'a mut [usize],
 }
 
-// The same numbers in another state.
-pub fn moved(held: Held, mode: Mode) -> Held
-    ensures { result ≡ record { mode = mode; form = held.form; start = held.start; size = held.size; len = held.len; drafted = held.drafted; given = held.given } }
-{
-    Held {
-        mode,
-        form: held.form,
-        start: held.start,
-        size: held.size,
-        len: held.len,
-        drafted: held.drafted,
-        given: held.given,
+impl Session<'_> {
+    // The answers that were given.
+    pub fn given(&self) -> &[u8]
+        requires { self.now.held.given ≤ length self.now.answers.now }
+        ensures { result.now ≡ take self.now.held.given self.now.answers.now }
+    {
+        &self.answers[..self.held.given]
+    }
+
+    // What they are worth.
+    pub fn worth(&self) -> &[usize]
+        ensures { result.now ≡ self.now.values.now }
+    {
+        self.values
+    }
+
+    // It holds nothing.
+    pub fn fresh(&mut self, mode: Mode)
+        requires { Used (lent self.old) }
+        ensures same { SameLoan self.old self.new }
+        ensures value { lent self.new ≡ drafting mode [] [] }
+    {
+        wipe(self.name, self.held.len);
+        wipe(self.text, self.held.drafted);
+        wipe(self.answers, self.held.given);
+        self.values.fill(0);
+        self.held = Held {
+            mode,
+            form: 0,
+            start: 0,
+            size: 0,
+            len: 0,
+            drafted: 0,
+            given: 0,
+        };
+    }
+
+    // A refused line.
+    pub fn refuse(&mut self, why: Refusal) -> Answer
+        requires { Kept (lent self.old) }
+        ensures same { SameLoan self.old self.new }
+        ensures value { Refuses why (lent self.old) result (lent self.new) }
+    {
+        match self.held.mode {
+            Mode::Collecting { lines: _ } => self.fresh(Mode::Spoiled),
+            Mode::Answering { k: _ } => self.fresh(Mode::Idle),
+            _ => {}
+        }
+        Err(why)
     }
 }
 
-// Accepted, with nothing to write.
-pub fn done(held: Held) -> Turn
-    ensures { result ≡ record { answer = Accepted 0; held = held } }
+// The used bytes at the front of memory are 0 again.
+fn wipe(memory: &mut [u8], used: usize)
+    requires { used ≤ length memory.old }
+    ensures { memory.new ≡ replicate used 0 ++ drop used memory.old }
 {
-    Turn {
-        answer: Answer::Accepted { len: 0 },
-        held,
-    }
-}
-
-// A refusal that leaves these numbers.
-pub fn kept(why: Refusal, held: Held) -> Turn
-    ensures { result ≡ record { answer = Refused why; held = held } }
-{
-    Turn {
-        answer: Answer::Refused { why },
-        held,
-    }
-}
-
-// A session that holds nothing.
-pub fn fresh(
-    mode: Mode,
-    held: Held,
-    name: &mut [u8],
-    text: &mut [u8],
-    answers: &mut [u8],
-    values: &mut [usize],
-) -> Held
-    requires { Used (session_of held name.old text.old answers.old values.old) }
-    ensures { session_of result name.new text.new answers.new values.new ≡ drafting mode [] [] }
-{
-    wipe_bytes(name, 0, held.len);
-    wipe_bytes(text, 0, held.drafted);
-    wipe_bytes(answers, 0, held.given);
-    wipe_numbers(values, 0, VALUES);
-    Held {
-        mode,
-        form: 0,
-        start: 0,
-        size: 0,
-        len: 0,
-        drafted: 0,
-        given: 0,
-    }
-}
-
-// A refused line.
-pub fn refuse(
-    why: Refusal,
-    held: Held,
-    name: &mut [u8],
-    text: &mut [u8],
-    answers: &mut [u8],
-    values: &mut [usize],
-) -> Turn
-    requires { Kept (session_of held name.old text.old answers.old values.old) }
-    ensures { Refuses why (session_of held name.old text.old answers.old values.old) result.answer (session_of result.held name.new text.new answers.new values.new) }
-{
-    let mode = held.mode;
-    match mode {
-        Mode::Collecting { lines: _ } => kept(
-            why,
-            fresh(Mode::Spoiled, held, name, text, answers, values),
-        ),
-        Mode::Answering { k: _ } => kept(why, fresh(Mode::Idle, held, name, text, answers, values)),
-        _ => kept(why, held),
-    }
+    memory[..used].fill(0);
 }

@@ -1,41 +1,46 @@
 -- The digits of a counter: the number they write, the bound that their count sets, and writing them with zeros in front.
-use mathlib.Core.Path.{◌≡◌, refl, sym, ◌∙◌}
-use mathlib.Core.Bool.{true, false, ◌&&◌, and-false}
-use mathlib.Core.List.{List, [], ◌∷◌, ◌++◌, append-nil}
+use mathlib.Core.Path.{◌≡◌, sym, ◌∙◌}
+use mathlib.Core.Bool.{Bool, true, false, ◌&&◌}
+use mathlib.Core.List.{List, [], ◌∷◌, append_assoc}
 use Prim.Native.Nat.{ℕ, suc, ◌+◌, ◌-◌, ◌*◌, ◌^◌, ◌≤◌, ◌<◌}
-use native.Mathlib.Nat.{pow-suc, pow-zero, pow-le-pow_right, mul-le-mul}
+use native.Mathlib.Nat.{pow-suc, pow-le-pow_right}
 use native.Mathlib.Omega.{arith}
 use native.Mathlib.Numerals.{add-one}
-use lib.ListN.{length, drop, get_or, replicate, drop_of_length-le}
+use lib.ListN.{length, take, drop, get_or, replicate, drop_of_length-le, length-append, length-take, length-drop, length-replicate}
+use borrow.Rule.Slice.PartMut.{put_mid}
+use Rattle.std.proofs.lemmas.List.Edits.{paste_all}
+use Rattle.std.proofs.lemmas.Slice.{put_mid-paste}
 use lib.Seq.{drop-cons}
 use lib.Dec.{leb}
-use borrow.Author.Tests.{leb-true, le-leb, lt-leb}
+use borrow.Author.Tests.{leb-true}
 use Rattle.paper.specs.Byte.{every, between, decimal}
 use Rattle.paper.specs.Line.{is_digit}
 use Rattle.paper.specs.Set.{amount, padded}
 use Rattle.paper.proofs.Law.{if_true, if_false, and_left, and_right}
 use Rattle.set.specs.Judge.{amount_in}
-use Rattle.set.specs.declared.answer.Amount.TheVariants.{Is, Not}
-use Rattle.text.specs.Write.{Writes}
-use Rattle.text.proofs.Written.{Writing, writing_begins, writing_turns, writing_room, writing_ends, writes_length}
+use Rattle.std.specs.Prelude.{Option, Some, None}
+use Rattle.std.specs.Char.{is_ascii_digit}
+use Rattle.text.specs.Write.{Writes, written}
+use Rattle.text.proofs.Written.{writes_then, writes_length}
 
 -- so many digits write a number below so many powers of ten
 pub power_nine : (i : ℕ) → i ≤ 9 → 10 ^ i ≤ 1000000000
 power_nine i h = pow-le-pow_right {n = 10} (omega arith) {i = i} {j = 9} h
 
+-- a byte that is tested for a digit
+digit_told : (b : ℕ) (t : Bool) → t ≡ is_ascii_digit b → t ≡ is_digit b
+unfolding is_digit between
+digit_told b t e = e
+
 -- the bytes from a place on decide whether all are digits: a digit there leaves it to the next, another byte does not
 module _ (a : List ℕ) (i : ℕ) (e : every is_digit a ≡ every is_digit (drop i a)) where
-  digits_on : i < length a → 48 ≤ get_or a i 0 → get_or a i 0 ≤ 57 → every is_digit a ≡ every is_digit (drop (i + 1) a)
-  unfolding every is_digit between
-  digits_on h low high = e ∙ rw (drop-cons a i 0 h, add-one, le-leb 48 (get_or a i 0) low, le-leb (get_or a i 0) 57 high)
+  digits_on : i < length a → is_digit (get_or a i 0) ≡ true → every is_digit a ≡ every is_digit (drop (i + 1) a)
+  unfolding every
+  digits_on h y = e ∙ rw (drop-cons a i 0 h, add-one, y)
 
-  digits_below : i < length a → get_or a i 0 < 48 → every is_digit a ≡ false
-  unfolding every is_digit between
-  digits_below h low = e ∙ rw (drop-cons a i 0 h, lt-leb 48 (get_or a i 0) low)
-
-  digits_above : i < length a → 57 < get_or a i 0 → every is_digit a ≡ false
-  unfolding every is_digit between
-  digits_above h high = e ∙ rw (drop-cons a i 0 h, lt-leb (get_or a i 0) 57 high, and-false)
+  digits_off : i < length a → is_digit (get_or a i 0) ≡ false → every is_digit a ≡ false
+  unfolding every
+  digits_off h n = e ∙ rw (drop-cons a i 0 h, n)
 
   digits_all : length a ≤ i → every is_digit a ≡ true
   unfolding every
@@ -48,33 +53,25 @@ pub record Summing (a : List ℕ) (n i : ℕ) : Type 0 where
   pub inside : i ≤ length a
   pub digits : every is_digit a ≡ every is_digit (drop i a)
 
-pub sum_begins : (a : List ℕ) → Summing a 0 0
-sum_begins a = record { left = refl; small = rw pow-zero (omega arith); inside = omega arith; digits = refl }
-
-pub sum_small : (a : List ℕ) (n i : ℕ) → Summing a n i → length a ≤ 9 → n < 1000000000
-sum_small a n i s h = omega (arith, power_nine i (omega (arith, s.inside)), s.small)
-
--- a byte below the digits, or above them
-pub sum_low : (a : List ℕ) (n i : ℕ) → Summing a n i → i < length a → get_or a i 0 < 48 → Not ≡ amount_in a
+-- a byte that is no digit
+pub sum_breaks : (a : List ℕ) (n i : ℕ) (t : Bool) → Summing a n i → i < length a → t ≡ is_ascii_digit (get_or a i 0) → t ≡ false → ◌≡◌ {A = Option ℕ} None (amount_in a)
 unfolding amount_in
-sum_low a n i s h low = sym (if_false _ _ _ (digits_below a i s.digits h low))
-
-pub sum_high : (a : List ℕ) (n i : ℕ) → Summing a n i → i < length a → 57 < get_or a i 0 → Not ≡ amount_in a
-unfolding amount_in
-sum_high a n i s h high = sym (if_false _ _ _ (digits_above a i s.digits h high))
+sum_breaks a n i t s h e f = sym (if_false _ _ _ (digits_off a i s.digits h (sym (digit_told _ t e) ∙ f)))
 
 -- a digit more
-pub sum_turns : (a : List ℕ) (n i : ℕ) → Summing a n i → i < length a → 48 ≤ get_or a i 0 → get_or a i 0 ≤ 57 → Summing a (n * 10 + (get_or a i 0 - 48)) (i + 1)
-unfolding amount
-sum_turns a n i s h low high =
+pub sum_turns : (a : List ℕ) (n i : ℕ) (t : Bool) → Summing a n i → i < length a → t ≡ is_ascii_digit (get_or a i 0) → t ≡ true → Summing a (n * 10 + (get_or a i 0 - 48)) (i + 1)
+unfolding amount is_digit between
+sum_turns a n i t s h e f =
+    let digit : is_digit (get_or a i 0) ≡ true = sym (digit_told (get_or a i 0) t e) ∙ f in
+    let high : get_or a i 0 ≤ 57 = leb-true (get_or a i 0) 57 (and_right (leb 48 (get_or a i 0)) _ digit) in
     record {
       left = s.left ∙ rw (drop-cons a i 0 h, add-one);
       small = rw (add-one, pow-suc) (omega (arith, s.small));
       inside = omega arith;
-      digits = digits_on a i s.digits h low high;
+      digits = digits_on a i s.digits h digit;
     }
 
-pub sum_ends : (a : List ℕ) (n i : ℕ) → Summing a n i → length a ≤ i → Is n ≡ amount_in a
+pub sum_ends : (a : List ℕ) (n i : ℕ) → Summing a n i → length a ≤ i → Some n ≡ amount_in a
 unfolding amount amount_in
 sum_ends a n i s h =
     let is : n ≡ amount 0 a = sym (s.left ∙ rw (drop_of_length-le a {i = i} h)) in
@@ -90,61 +87,30 @@ amount_below (b ∷ s) n k h e =
     let place : k + suc (length s) ≡ suc k + length s = omega arith in
     rw place (amount_below s (n * 10 + (b - 48)) (suc k) (rw pow-suc (omega arith)) (and_right (leb 48 b && leb b 57) _ e))
 
--- a power of ten, factor by factor
-pub power_turns : (n i : ℕ) → n ≡ 10 ^ i → n * 10 ≡ 10 ^ (i + 1)
-power_turns n i e = rw (add-one, pow-suc, e)
+-- zeros in front of a number's digits, and then the digits
+module _ (old : List ℕ) (at value digits zeros : ℕ) (e : zeros ≡ digits - length (decimal value)) (h : at + length (padded digits (decimal value)) ≤ length old) where
+  pub zeros_room : at + zeros + length (decimal value) ≤ length old
+  unfolding padded
+  zeros_room = omega (arith, e, simp (length-append, length-replicate) at h)
 
--- zeros in front of a number's digits, one after the other
-pub record Zeros (old : List ℕ) (at value digits : ℕ) (new : List ℕ) (next there : ℕ) : Type 0 where
-  pub writing : Writing old at (padded digits (decimal value)) (replicate (digits - there) 48 ++ decimal value) new next
-  pub enough : length (decimal value) ≤ there
+  module _ (part : List ℕ) (k : ℕ) (p : k ≡ at + zeros - at) (f : ((y : ℕ) → y ≡ 48 → y ≡ 48) → part ≡ replicate (length (take k (drop at old))) 48) where
+    zeros_written : Writes old at (replicate zeros 48) (put_mid at k old part) (at + zeros)
+    unfolding written
+    zeros_written =
+        let room : at + zeros + length (decimal value) ≤ length old = zeros_room in
+        let size : length (take k (drop at old)) ≡ zeros = rw (length-take, length-drop) (omega arith) in
+        let is : part ≡ replicate zeros 48 = f (λ y q. q) ∙ rw size in
+        let count : length {A = ℕ} (replicate zeros 48) ≡ zeros = length-replicate zeros 48 in
+        record {
+          ends = rw count;
+          room = omega arith;
+          is = put_mid-paste at k old part (replicate zeros 48) zeros is (omega arith) (sym count)
+              ∙ paste_all old at (replicate zeros 48) zeros (sym count) ∙ rw count (simp append_assoc);
+        }
 
-pub zeros_begin : (old : List ℕ) (at value digits there : ℕ) → there ≡ length (decimal value) → at + length (padded digits (decimal value)) ≤ length old
-    → Zeros old at value digits old at there
-unfolding padded
-zeros_begin old at value digits there e h =
-    record { writing = rw e (writing_begins old at (padded digits (decimal value)) h); enough = omega arith }
+    pub number_room : at + zeros + length (decimal value) ≤ length (put_mid at k old part)
+    number_room = rw (writes_length _ _ _ _ _ zeros_written) zeros_room
 
--- one zero more
-zero_next : (value digits there : ℕ) → there < digits
-    → replicate (digits - there) 48 ++ decimal value ≡ (48 ∷ []) ++ (replicate (digits - (there + 1)) 48 ++ decimal value)
-zero_next value digits there h =
-    let one : digits - there ≡ suc (digits - (there + 1)) = omega arith in
-    rw one
-
-pub zeros_room : (old : List ℕ) (at value digits : ℕ) (new : List ℕ) (next there : ℕ) → Zeros old at value digits new next there → there < digits → next < length new
-zeros_room old at value digits new next there z h =
-    omega (arith, writing_room old at _ _ new next (48 ∷ []) _ z.writing (zero_next value digits there h))
-
-pub zeros_turn : (old : List ℕ) (at value digits : ℕ) (new newer : List ℕ) (next after there : ℕ) → Zeros old at value digits new next there → there < digits
-    → Writes new next (48 ∷ []) newer after → Zeros old at value digits newer after (there + 1)
-zeros_turn old at value digits new newer next after there z h w =
-    record {
-      writing = writing_turns old at _ _ new next (48 ∷ []) _ newer after z.writing (zero_next value digits there h) w;
-      enough = omega (arith, z.enough);
-    }
-
--- no zero is missing
-zeros_done : (value digits there : ℕ) → digits ≤ there → replicate (digits - there) 48 ++ decimal value ≡ decimal value ++ []
-zeros_done value digits there h =
-    let none : digits - there ≡ 0 = omega arith in
-    rw (none, append-nil)
-
-pub number_room : (old : List ℕ) (at value digits : ℕ) (new : List ℕ) (next there : ℕ) → Zeros old at value digits new next there → digits ≤ there
-    → next + length (decimal value) ≤ length new
-number_room old at value digits new next there z h = writing_room old at _ _ new next (decimal value) [] z.writing (zeros_done value digits there h)
-
-pub number_ends : (old : List ℕ) (at value digits : ℕ) (new newer : List ℕ) (next after there : ℕ) → Zeros old at value digits new next there → digits ≤ there
-    → Writes new next (decimal value) newer after → Writes old at (padded digits (decimal value)) newer after
-number_ends old at value digits new newer next after there z h w =
-    writing_ends old at _ [] newer after (writing_turns old at _ _ new next (decimal value) [] newer after z.writing (zeros_done value digits there h) w) refl
-
--- a step's product with a set's number
-pub product : (i n : ℕ) → i ≤ 65535 → n ≤ 9999 → i * n ≤ 655284465
-product i n h k = mul-le-mul h k
-
--- writing the digits keeps the buffer's length
-pub number_length : (old : List ℕ) (at value digits : ℕ) (new newer : List ℕ) (next after there : ℕ) → Zeros old at value digits new next there → digits ≤ there
-    → Writes new next (decimal value) newer after → length newer ≡ length old
-number_length old at value digits new newer next after there z h w =
-    writes_length old at (padded digits (decimal value)) newer after (number_ends old at value digits new newer next after there z h w)
+    pub number_ends : (new : List ℕ) (next : ℕ) → Writes (put_mid at k old part) (at + zeros) (decimal value) new next → Writes old at (padded digits (decimal value)) new next
+    unfolding padded
+    number_ends new next w = rw (← e) (writes_then old at (replicate zeros 48) _ (at + zeros) (decimal value) new next zeros_written w)

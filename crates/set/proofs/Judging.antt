@@ -1,11 +1,12 @@
 -- An answer to a definition of a plan: the tests of the code decide whether it fits, and what is kept of it is noted at its value.
 use Prim.Native.Nat.{ℕ, zero, suc, ◌+◌, ◌*◌, ◌≤◌, ◌<◌}
 use mathlib.Core.Path.{◌≡◌, refl, sym, ◌∙◌, ap}
-use mathlib.Core.Bool.{true, false, and-false}
+use mathlib.Core.Bool.{Bool, true, false, and-false}
 use mathlib.Core.List.{List, [], ◌∷◌, ◌++◌}
 use native.Mathlib.Omega.{arith}
 use lib.ListN.{length, take, drop, get_or, replicate}
-use borrow.Author.Tests.{le-leb, lt-leb}
+use lib.Dec.{eqb}
+use borrow.Author.Tests.{le-leb, lt-leb, eqb-true, eqb-false}
 use Rattle.paper.specs.Byte.{every}
 use Rattle.paper.specs.Line.{is_digit}
 use Rattle.paper.specs.Command as P
@@ -20,9 +21,8 @@ use Rattle.form.specs.Plan.{number_of, kind_of, step_size, four_at, plan_of}
 use Rattle.set.specs.Answers.{answers_text, first_of, second_of, with_answer, values_in}
 use Rattle.set.specs.Taking.{Asking, Answering, Notes}
 use Rattle.set.specs.Judge.{amount_in, judged_as, Judges}
-use Rattle.set.specs.declared.answer.Value.TheVariants.{Kept, Unfit}
-use Rattle.set.specs.declared.answer.Amount.{Amount}
-use Rattle.set.specs.declared.answer.Amount.TheVariants.{Is, Not}
+use Rattle.std.specs.Prelude.{Option, Some, None}
+use Rattle.set.specs.declared.answer.Kept.{Kept}
 use Rattle.form.proofs.Distinct.{Ranged, ranged, small, number_below}
 use Rattle.set.proofs.Defining.{len_small, fits_len}
 use Rattle.set.proofs.Keeping.{from_more}
@@ -59,32 +59,35 @@ unfolding fits kind_of
 fits_not (P.counting n len letter by prompt) a k h = rw (h, and-false)
 fits_not (P.varying n len letter prompt) a k h = absurd (k refl)
 
-kept_counter : (d : P.Define) (a : List ℕ) (given : ℕ) → (kind_of d ≡ 2 → ⊥) → 1 ≤ length a → length a ≤ len_of d → every is_digit a ≡ true → judged_as d a given ≡ Kept (amount 0 a) (length a)
+kept_counter : (d : P.Define) (a : List ℕ) (given : ℕ) → (kind_of d ≡ 2 → ⊥) → 1 ≤ length a → length a ≤ len_of d → every is_digit a ≡ true → judged_as d a given ≡ Some (record { first = amount 0 a; second = length a })
 unfolding judged_as fits kind_of len_of first_of second_of
 kept_counter (P.counting n len letter by prompt) a given k low high e = if_true _ _ _ (rw (le-leb 1 (length a) low, le-leb (length a) len high, e))
 kept_counter (P.varying n len letter prompt) a given k low high e = absurd (k refl)
 
-kept_variable : (d : P.Define) (a : List ℕ) (given : ℕ) → kind_of d ≡ 2 → length a ≤ len_of d → every is_shown a ≡ true → judged_as d a given ≡ Kept given (given + length a)
+kept_variable : (d : P.Define) (a : List ℕ) (given : ℕ) → kind_of d ≡ 2 → length a ≤ len_of d → every is_shown a ≡ true → judged_as d a given ≡ Some (record { first = given; second = given + length a })
 unfolding judged_as fits kind_of len_of first_of second_of
 kept_variable (P.counting n len letter (P.up by) prompt) a given k high e = absurd (omega (arith, k))
 kept_variable (P.counting n len letter (P.down by) prompt) a given k high e = absurd (omega (arith, k))
 kept_variable (P.varying n len letter prompt) a given k high e = if_true _ _ _ (rw (le-leb (length a) len high, e))
 
-unfit : (d : P.Define) (a : List ℕ) (given : ℕ) → fits d a ≡ false → Unfit ≡ judged_as d a given
+unfit : (d : P.Define) (a : List ℕ) (given : ℕ) → fits d a ≡ false → ◌≡◌ {A = Option Kept} None (judged_as d a given)
 unfolding judged_as
 unfit d a given e = sym (if_false _ _ _ e)
 
 -- the number that is told tells of the bytes
-no_digits : (a : List ℕ) (r : Amount) → r ≡ amount_in a → r ≡ Not → every is_digit a ≡ false
+no_digits : (a : List ℕ) (r : Option ℕ) → r ≡ amount_in a → r ≡ None → every is_digit a ≡ false
 unfolding amount_in
-no_digits a r e q = either (every is_digit a) (λ y. let is : Is (amount 0 a) ≡ Not = sym (e ∙ if_true _ _ _ y) ∙ q in let z : ◌≡◌ {A = ℕ} 0 1 = cc in absurd (omega arith)) (λ n. n)
+no_digits a r e q = either (every is_digit a) (λ y. let is : ◌≡◌ {A = Option ℕ} (Some (amount 0 a)) None = sym (e ∙ if_true _ _ _ y) ∙ q in absurd cc) (λ n. n)
 
-digits_told : (a : List ℕ) (n : ℕ) (r : Amount) → r ≡ amount_in a → r ≡ Is n → (every is_digit a ≡ true) × (n ≡ amount 0 a)
+digits_told : (a : List ℕ) (n : ℕ) (r : Option ℕ) → r ≡ amount_in a → r ≡ Some n → (every is_digit a ≡ true) × (n ≡ amount 0 a)
 unfolding amount_in
 digits_told a n r e q =
     either (every is_digit a)
-    (λ y. let is : Is n ≡ Is (amount 0 a) = sym q ∙ e ∙ if_true _ _ _ y in (y, cc))
-    (λ m. let is : Is n ≡ Not = sym q ∙ e ∙ if_false _ _ _ m in let z : ◌≡◌ {A = ℕ} 0 1 = cc in absurd (omega arith))
+    (λ y. let is : ◌≡◌ {A = Option ℕ} (Some n) (Some (amount 0 a)) = sym q ∙ e ∙ if_true _ _ _ y in (y, cc))
+    (λ m. let is : ◌≡◌ {A = Option ℕ} (Some n) None = sym q ∙ e ∙ if_false _ _ _ m in absurd cc)
+
+abbrev some_kept : ℕ → ℕ → Option Kept
+some_kept first second = Some (record { first = first; second = second })
 
 -- one definition more with its answer
 noted_more : (old : List ℕ) (ls : List FormLine) (k : ℕ) (given : List (List ℕ)) (d : P.Define) (more : List P.Define) (a : List ℕ) → Answering old ls k given → drop k (asked ls) ≡ d ∷ more
@@ -120,24 +123,28 @@ module _ (plan : List ℕ) (k : ℕ) where
   ask_short a t f = omega (arith, fits_len t.define a f, len_range t.define (held (define_ranges t.define) (define_in_range t)))
 
   module _ (a : List ℕ) (given : ℕ) where
-    pub judged_long : get_or plan (2 + k * 4 + 1) 0 < length a → Judges plan k a given Unfit
+    pub judged_long : get_or plan (2 + k * 4 + 1) 0 < length a → Judges plan k a given None
     judged_long h = record { judges = λ t. unfit t.define a given (fits_long t.define a (rw (stands t).len at h)) }
 
-    pub judged_variable : get_or plan (2 + k * 4) 0 ≡ 2 → length a ≤ get_or plan (2 + k * 4 + 1) 0 → every is_shown a ≡ true → Judges plan k a given (Kept given (given + length a))
+    pub judged_variable : get_or plan (2 + k * 4) 0 ≡ 2 → length a ≤ get_or plan (2 + k * 4 + 1) 0 → every is_shown a ≡ true → Judges plan k a given (Some (record { first = given; second = given + length a }))
     judged_variable e h s = record { judges = λ t. sym (kept_variable t.define a given (sym (stands t).kind ∙ e) (rw (stands t).len at h) s) }
 
     module _ (n : get_or plan (2 + k * 4) 0 ≡ 2 → ⊥) where
-      pub judged_empty : length a < 1 → Judges plan k a given Unfit
-      judged_empty h = record { judges = λ t. unfit t.define a given (fits_empty t.define a (λ q. n ((stands t).kind ∙ q)) h) }
+      pub judged_empty : (t : Bool) → t ≡ eqb (length a) 0 → t ≡ true → Judges plan k a given None
+      judged_empty t e y =
+          let none : length a ≡ 0 = eqb-true (length a) 0 (sym e ∙ y) in
+          record { judges = λ t. unfit t.define a given (fits_empty t.define a (λ q. n ((stands t).kind ∙ q)) (omega arith)) }
 
-      pub judged_none : (r : Amount) → r ≡ amount_in a → r ≡ Not → Judges plan k a given Unfit
-      judged_none r e q = record { judges = λ t. unfit t.define a given (fits_not t.define a (λ q. n ((stands t).kind ∙ q)) (no_digits a r e q)) }
+      pub judged_none : (r : Option ℕ) (v : Option Kept) → r ≡ amount_in a → r ≡ None → v ≡ None → Judges plan k a given v
+      judged_none r v e q w = record { judges = λ t. w ∙ unfit t.define a given (fits_not t.define a (λ q. n ((stands t).kind ∙ q)) (no_digits a r e q)) }
 
-      pub judged_counter : (r : Amount) (m : ℕ) → r ≡ amount_in a → r ≡ Is m → 1 ≤ length a → length a ≤ get_or plan (2 + k * 4 + 1) 0 → Judges plan k a given (Kept m (length a))
-      judged_counter r m e q low high =
+      pub judged_counter : (r : Option ℕ) (m : ℕ) (t : Bool) → r ≡ amount_in a → r ≡ Some m → t ≡ eqb (length a) 0 → t ≡ false → length a ≤ get_or plan (2 + k * 4 + 1) 0
+          → Judges plan k a given (Some (record { first = m; second = length a }))
+      judged_counter r m t e q z f high =
           let d = digits_told a m r e q in
+          let low : 1 ≤ length a = omega (arith, eqb-false (length a) 0 (sym z ∙ f)) in
           record {
-            judges = λ t. ap (λ x. Kept x (length a)) d.1 ∙ sym (kept_counter t.define a given (λ q. n ((stands t).kind ∙ q)) low (rw (stands t).len at high) d.0);
+            judges = λ t. ap (λ x. some_kept x (length a)) d.1 ∙ sym (kept_counter t.define a given (λ q. n ((stands t).kind ∙ q)) low (rw (stands t).len at high) d.0);
           }
 
   -- what is kept is noted at the value

@@ -1,23 +1,22 @@
 -- What the numbers of a value, a piece and a definition show: each test of the code gives its clause, and writes make one.
 use Prim.Native.Nat.{ℕ, suc, ◌+◌, ◌-◌, ◌*◌, ◌/◌, ◌%◌, ◌^◌, ◌≤◌, ◌<◌}
-use mathlib.Core.Path.{◌≡◌, refl, sym, ◌∙◌, ap}
-use mathlib.Core.Bool.{Bool, true, false, ◌&&◌}
+use mathlib.Core.Path.{◌≡◌, sym, ◌∙◌, ap}
+use mathlib.Core.Bool.{Bool, true, false}
 use mathlib.Core.List.{List, [], ◌∷◌, ◌++◌}
 use native.Mathlib.Omega.{arith}
 use lib.ListN.{length, take, drop, get_or, length-append}
 use lib.Dec.{leb, ltb}
 use borrow.Author.Tests.{eq-eqb, ne_eqb}
-use Rattle.paper.specs.Byte.{when◌then◌else◌, decimal}
+use Rattle.paper.specs.Byte.{decimal}
 use Rattle.paper.specs.Line.{escape}
 use Rattle.paper.specs.Set.{padded}
 use Rattle.paper.proofs.Law.{if_true, if_false}
 use Rattle.text.specs.Write.{Writes}
 use Rattle.text.proofs.Written.{Writing, writing_begins, writing_turns, writing_room, writing_ends, writes_then, writes_none, writes_length}
 use Rattle.form.specs.Walk.{part_of}
-use Rattle.set.proofs.Digits.{product}
 use Rattle.set.specs.Fill.{shown_part, Within}
 use Rattle.set.specs.Values.{count_at, four_show, value_show, Told, opening_in, behind_show, holds_in}
-use Rattle.set.specs.Piece.{piece_show, PieceTold, pieces_show, PiecesTold, holds_at, DefineTold, hold_from, DefinesTold}
+use Rattle.set.specs.Piece.{piece_show, PieceTold, pieces_show, PiecesTold, holds_at}
 
 -- the shown part lies within
 pub within_answers : (t : Bool) (text answers start end : ℕ) → t ≡ true → Within t text answers start end → (start ≤ end) × (end ≤ answers)
@@ -41,12 +40,9 @@ pub count_up : (kind first step i : ℕ) → kind ≡ 0 → first + i * step ≡
 unfolding count_at
 count_up kind first step i e = sym (if_true _ _ _ (eq-eqb kind 0 e))
 
-pub count_down : (kind first step i : ℕ) → (kind ≡ 0 → ⊥) → first - i * step ≡ count_at kind first step i
+pub count_down : (kind first step i n : ℕ) → n ≡ first - i * step → (kind ≡ 0 → ⊥) → n ≡ count_at kind first step i
 unfolding count_at
-count_down kind first step i n = sym (if_false _ _ _ (ne_eqb kind 0 n))
-
-pub count_none : (kind first step i : ℕ) → (kind ≡ 0 → ⊥) → first < i * step → 0 ≡ count_at kind first step i
-count_none kind first step i n h = omega (arith, count_down kind first step i n)
+count_down kind first step i n e f = e ∙ sym (if_false _ _ _ (ne_eqb kind 0 f))
 
 -- what a variable shows, and a counter
 four_variable : (answers : List ℕ) (first second kind step i : ℕ) → kind ≡ 2 → four_show answers first second kind step i ≡ escape (part_of answers first second)
@@ -76,9 +72,6 @@ module _ (answers values : List ℕ) (value i : ℕ) where
     escaped_writes text s old at new r q w = rw (variable_is text s q) w
 
   module _ (n : get_or values (value * 4 + 2) 0 ≡ 2 → ⊥) where
-    pub value_small : Told answers values value i → (get_or values (value * 4) 0 < 1000000000) × (get_or values (value * 4 + 3) 0 ≤ 9999) × (i ≤ 65535)
-    value_small t = (t.shown.small n, t.shown.stepped, t.shown.counted)
-
     counter_is : (m : ℕ) → m ≡ count_at (get_or values (value * 4 + 2) 0) (get_or values (value * 4) 0) (get_or values (value * 4 + 3) 0) i → value_show answers values value i ≡ padded (get_or values (value * 4 + 1) 0) (decimal m)
     unfolding value_show
     counter_is m q = four_counter answers _ _ _ _ i n ∙ rw q
@@ -180,9 +173,6 @@ module _ (text answers plan values : List ℕ) (i count : ℕ) (old : List ℕ) 
     pub going_told : k < count → count ≡ get_or plan 1 0 → PiecesTold text answers plan values i → PieceTold text answers plan values k i
     going_told h e t = t.each k (omega arith)
 
-    pub going_inside : k < count → count ≡ get_or plan 1 0 → PiecesTold text answers plan values i → k < length plan
-    going_inside h e t = omega (arith, (going_told h e t).inside)
-
     pub going_turns : k < count → (newer : List ℕ) (after : ℕ) → Writes new next (piece_show text answers plan values k i) newer after → Going text answers plan values i count old at newer after (k + 1)
     going_turns h newer after w = record { writing = writing_turns old at _ _ new next _ _ newer after g.writing (next_piece h) w; inside = omega arith }
 
@@ -192,20 +182,6 @@ module _ (text answers plan values : List ℕ) (i count : ℕ) (old : List ℕ) 
 
     pub going_ends : count ≤ k → count ≡ get_or plan 1 0 → Writes old at (pieces_show text answers plan values i 0 (get_or plan 1 0)) new next
     going_ends h e = rw (← e) (writing_ends old at _ _ new next g.writing (none_left h))
-
-    pub going_length : count ≤ k → count ≡ get_or plan 1 0 → length new ≡ length old
-    going_length h e = writes_length old at _ new next (going_ends h e)
-
--- the numbers of a counter are small
-module _ (plan values : List ℕ) (k : ℕ) (t : DefineTold plan values k) (n : get_or plan (2 + k * 4) 0 ≡ 2 → ⊥) where
-  pub define_few : get_or plan (2 + k * 4 + 1) 0 ≤ 9
-  define_few = t.few n
-
-  pub define_by : (last : ℕ) → last ≤ 65535 → last * get_or plan (2 + k * 4 + 2) 0 ≤ 655284465
-  define_by last h = product last _ h t.stepped
-
-  pub define_sum : (last : ℕ) → last ≤ 65535 → get_or values (get_or plan (2 + k * 4 + 3) 0 * 4) 0 + last * get_or plan (2 + k * 4 + 2) 0 ≤ 1655284465
-  define_sum last h = omega (arith, t.small n, define_by last h)
 
 -- whether a definition holds: a variable does, a counter by its kind
 module _ (plan values : List ℕ) (k last : ℕ) where
@@ -221,36 +197,3 @@ module _ (plan values : List ℕ) (k last : ℕ) where
     pub holds_up : (top : ℕ) → (get_or plan (2 + k * 4) 0 ≡ 1 → ⊥) → top ≡ 10 ^ get_or plan (2 + k * 4 + 1) 0 → ltb (get_or values (get_or plan (2 + k * 4 + 3) 0 * 4) 0 + last * get_or plan (2 + k * 4 + 2) 0) top ≡ holds_at plan values k last
     unfolding holds_at holds_in
     holds_up top m e = rw e (sym (if_false _ _ _ (ne_eqb _ 2 n) ∙ if_false _ _ _ (ne_eqb _ 1 m)))
-
--- the definitions from k on decide
-pub record Deciding (plan values : List ℕ) (last count k : ℕ) : Type 0 where
-  pub same : hold_from plan values last 0 count ≡ hold_from plan values last k (count - k)
-  pub inside : k ≤ count
-
-module _ (plan values : List ℕ) (last count : ℕ) where
-  pub deciding_begins : Deciding plan values last count 0
-  deciding_begins = let all : count - 0 ≡ count = omega arith in record { same = rw all; inside = omega arith }
-
-  module _ (k : ℕ) (d : Deciding plan values last count k) where
-    next_define : k < count → hold_from plan values last 0 count ≡ (when holds_at plan values k last then hold_from plan values last (k + 1) (count - (k + 1)) else false)
-    unfolding hold_from when◌then◌else◌
-    next_define h =
-        let one : count - k ≡ suc (count - (k + 1)) = omega arith in
-        d.same ∙ rw one (both (holds_at plan values k last) (hold_from plan values last (k + 1) (count - (k + 1))))
-      where
-        both : (s t : Bool) → (s && t) ≡ (when s then t else false)
-        both true t = refl
-        both false t = refl
-
-    pub deciding_told : k < count → count ≡ get_or plan 0 0 → DefinesTold plan values → DefineTold plan values k
-    deciding_told h e t = t.each k (omega arith)
-
-    pub deciding_turns : k < count → (r : Bool) → r ≡ holds_at plan values k last → r ≡ true → Deciding plan values last count (k + 1)
-    deciding_turns h r e y = record { same = next_define h ∙ if_true _ _ _ (sym e ∙ y); inside = omega arith }
-
-    pub deciding_breaks : k < count → (r : Bool) → r ≡ holds_at plan values k last → r ≡ false → false ≡ hold_from plan values last 0 count
-    deciding_breaks h r e n = sym (next_define h ∙ if_false _ _ _ (sym e ∙ n))
-
-    pub deciding_ends : count ≤ k → true ≡ hold_from plan values last 0 count
-    unfolding hold_from
-    deciding_ends h = let none : count - k ≡ 0 = omega arith in sym (d.same ∙ rw none)

@@ -9,42 +9,30 @@ ghost use Rattle.set.specs.Judge.{amount_in, Judges};
 
 use form::plan::{DEFINES, VARIABLE, put_four};
 
-// The number that an answer writes, or that it is none.
-#[derive(Clone, Copy)]
-pub enum Amount {
-    Is { n: usize },
-    Not,
-}
-
-fn amount_of(a: &[u8]) -> Amount
+// The number that an answer writes, if it is digits.
+fn amount_of(a: &[u8]) -> Option<usize>
     requires { length a.now ≤ 9 }
     ensures { result ≡ amount_in a.now }
 {
     let mut n = 0;
-    let mut i = 0;
-    while i < a.len() {
-        let b = a[i];
-        if b < b'0' {
-            return Amount::Not;
-        }
-        if b'9' < b {
-            return Amount::Not;
+    for &b in a {
+        if !b.is_ascii_digit() {
+            return None;
         }
         n = n * 10 + (b - b'0') as usize;
-        i += 1;
     }
-    Amount::Is { n }
+    Some(n)
 }
 
 // What is kept of an answer that fits.
-#[derive(Clone, Copy)]
-pub enum Value {
-    Kept { first: usize, second: usize },
-    Unfit,
+#[derive(Clone, Copy, Debug, PartialEq, Eq)]
+pub struct Kept {
+    pub first: usize,
+    pub second: usize,
 }
 
-// The answer to definition k of a plan; a variable's goes to a place of the answers.
-pub fn judged(plan: &[usize], k: usize, a: &[u8], given: usize) -> Value
+// The answer to definition k of a plan, if it fits; a variable's goes to a place of the answers.
+pub fn judged(plan: &[usize], k: usize, a: &[u8], given: usize) -> Option<Kept>
     requires asking { Asking plan.now k }
     requires a_value { every is_shown a.now ≡ true }
     requires given_bound { given ≤ 65535 }
@@ -54,35 +42,33 @@ pub fn judged(plan: &[usize], k: usize, a: &[u8], given: usize) -> Value
     let kind = plan[at];
     let len = plan[at + 1];
     if len < a.len() {
-        return Value::Unfit;
+        return None;
     }
     if kind == VARIABLE {
-        return Value::Kept {
+        return Some(Kept {
             first: given,
             second: given + a.len(),
-        };
+        });
     }
-    if a.len() < 1 {
-        return Value::Unfit;
+    if a.is_empty() {
+        return None;
     }
-    let Amount::Is { n } = amount_of(a) else {
-        return Value::Unfit;
-    };
-    Value::Kept {
-        first: n,
+    let first = amount_of(a)?;
+    Some(Kept {
+        first,
         second: a.len(),
-    }
+    })
 }
 
 // What is kept of the answer to definition k, at the place of its value.
-pub fn note_value(values: &mut [usize], plan: &[usize], k: usize, first: usize, second: usize)
+pub fn note_value(values: &mut [usize], plan: &[usize], k: usize, kept: Kept)
     requires asking { Asking plan.now k }
     requires values_len { length values.old ≡ 104 }
-    ensures { Notes values.old plan.now k first second values.new }
+    ensures { Notes values.old plan.now k kept.first kept.second values.new }
 {
     let from = DEFINES + k * 4;
     let at = plan[from + 3] * 4;
     let kind = plan[from];
     let step = plan[from + 2];
-    put_four(values, at, first, second, kind, step);
+    put_four(values, at, kept.first, kept.second, kind, step);
 }

@@ -6,11 +6,12 @@ ghost use Rattle.set.specs.Values.{Told, count_at, value_show, opening_in, behin
 ghost use Rattle.set.specs.Piece.{PieceTold, PiecesTold, DefineTold, piece_show, pieces_show, holds_at};
 ghost use Rattle.set.specs.Taking.{Filled, Taking, Holds, Puts};
 
-use crate::count::{put_count, ten_to};
+use crate::count::put_count;
 use form::plan::{DEFINES, DOWN, PIECES, UP, VARIABLE};
 use text::write::{put, put_all, put_decimal, put_escaped};
 
 // Definition k stays within its bounds in a last set, as it does in the first.
+// Kept: a kind is one of form's numbers, since plan_of and values_in fix it as a number of the memory that is lent.
 fn define_holds(plan: &[usize], values: &[usize], k: usize, last: usize) -> bool
     requires define_told { DefineTold plan.now values.now k }
     requires last_bound { last ≤ 65535 }
@@ -26,7 +27,7 @@ fn define_holds(plan: &[usize], values: &[usize], k: usize, last: usize) -> bool
     if kind == DOWN {
         return by <= first;
     }
-    first + by < ten_to(plan[at + 1])
+    first + by < 10usize.pow(plan[at + 1] as u32)
 }
 
 // Every counter stays within its bounds up to a last set.
@@ -35,15 +36,7 @@ pub fn all_hold(plan: &[usize], values: &[usize], last: usize) -> bool
     requires last_bound { last ≤ 65535 }
     ensures { Holds plan.now values.now last result }
 {
-    let count = plan[0];
-    let mut k = 0;
-    while k < count {
-        if !define_holds(plan, values, k, last) {
-            return false;
-        }
-        k += 1;
-    }
-    true
+    (0..plan[0]).all(|k| define_holds(plan, values, k, last))
 }
 
 // The part that is shown: of the form's text, or of the answers.
@@ -69,13 +62,10 @@ fn value_at(kind: usize, first: usize, step: usize, i: usize) -> usize
     ensures { result ≡ count_at kind first step i }
 {
     if kind == UP {
-        return first + i * step;
+        first + i * step
+    } else {
+        first.saturating_sub(i * step)
     }
-    let down = i * step;
-    if first < down {
-        return 0;
-    }
-    first - down
 }
 
 // A value in set i.
@@ -173,12 +163,9 @@ fn put_pieces<'a>(
     requires plan_in_bounds { at + length (pieces_show text.now answers.now plan.now values.now i 0 (get_or plan.now 1 0)) ≤ length out.old }
     ensures { Writes out.old at (pieces_show text.now answers.now plan.now values.now i 0 (get_or plan.now 1 0)) out.new result }
 {
-    let count = plan[1];
     let mut next = at;
-    let mut k = 0;
-    while k < count {
+    for k in 0..plan[1] {
         next = put_piece(out, next, text, answers, plan, values, k, i);
-        k += 1;
     }
     next
 }

@@ -1,6 +1,5 @@
 pub mod Moving
 pub mod Packing
-pub mod Compare
 pub mod Look
 pub mod Seek
 pub mod Leaving

@@ -62,11 +62,6 @@ naming_room self old at new next i len k n room h e =
       counts self k.kept,
     )
 
-pub naming_length : (self : Store) (old : List ℕ) (at : ℕ) (new : List ℕ) (next i : ℕ) → Stocked self → Naming self old at new next i → length new ≡ length old
-naming_length self old at new next i s n =
-    let k = s.kept in
-    writes_length old at (lines_of (take i k.forms)) new next (n.writes k)
-
 pub naming_turns : (self : Store) (old : List ℕ) (at : ℕ) (new newer : List ℕ) (next end i len : ℕ) → Naming self old at new next i
     → i < self.count → len ≡ get_or self.lens i 0 → Writes new next (name_in self.names i len ++ (10 ∷ [])) newer end
     → Naming self old at newer end (i + 1)

@@ -6,6 +6,10 @@ use native.Mathlib.Omega.{arith}
 use native.Mathlib.Numerals.{add-one}
 use lib.ListN.{length, take, drop, get_or, replicate, length-append, length-map, get_or-append}
 use lib.Seq.{drop-cons, take-suc, take-append_seam, drop-append-add, take-nil}
+use mathlib.Core.Bool.{◌&&◌}
+use lib.Dec.{eqb}
+use Rattle.std.specs.Cmp.Lexicographic.{pointwise}
+use Rattle.paper.specs.Byte.{same}
 use Rattle.store.specs.Packed.{Store, Entry, entry, slot, texts_of, names_of, packed, name_in, Short, Kept}
 use Rattle.store.proofs.Packing.{slot_length, texts_more}
 use Rattle.text.specs.Write.{padded}
@@ -99,6 +103,14 @@ text_room self k i h =
 pub name_part : (names : List ℕ) (i len : ℕ) → take (i * 16 + len - i * 16) (drop (i * 16) names) ≡ name_in names i len
 unfolding name_in
 name_part names i len = let is : i * 16 + len - i * 16 ≡ len = omega arith in rw is
+
+-- texts that are compared number by number
+pub same_is : (s t : List ℕ) → pointwise eqb s t ≡ same s t
+unfolding same
+same_is [] [] = refl
+same_is [] (c ∷ t) = refl
+same_is (b ∷ s) [] = refl
+same_is (b ∷ s) (c ∷ t) = ap (λ r. eqb b c && r) (same_is s t)
 
 -- a form's lengths at its number: the name's is short, and the text ends within the store
 pub len_short : (self : Store) (k : Kept self) (i : ℕ) → i < self.count → get_or self.lens i 0 ≤ 16

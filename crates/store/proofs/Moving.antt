@@ -1,95 +1,46 @@
--- Memory that is moved down over a gap, and wiped: loops of writes whose bytes come from the memory itself.
-use mathlib.Core.Path.{◌≡◌, refl, sym, ◌∙◌, ap}
-use mathlib.Core.List.{List, [], ◌∷◌, ◌++◌}
-use Prim.Native.Nat.{ℕ, ◌+◌, ◌≤◌, ◌<◌}
+-- Memory in which a gap is closed, and memory that is wiped.
+use mathlib.Core.Path.{◌≡◌, sym, ◌∙◌, ap}
+use mathlib.Core.List.{List, ◌∷◌, ◌++◌, append_assoc, append-nil}
+use Prim.Native.Nat.{ℕ, ◌+◌, ◌-◌, ◌≤◌, ◌<◌}
 use native.Mathlib.Omega.{arith}
-use lib.ListN.{length, drop, get_or, set, replicate, length-take, length-drop, replicate-append-replicate}
-use lib.Seq.{get_or-take, get_or-drop}
-use Rattle.text.specs.Write.{Writes}
-use Rattle.text.proofs.Written.{Writing, writes_none, writes_then, writes_set, writes_drop, writes_length, copy_begins, copy_turns, copy_ends}
-use Rattle.store.specs.Gap.{bytes_at, zeros}
+use lib.ListN.{length, take, drop, set, replicate, length-take, length-drop, length-append, length-replicate}
+use lib.Seq.{paste}
+use borrow.Rule.Slice.PartMut.{put_mid}
+use Rattle.std.proofs.lemmas.List.{set-append_right, drop_more, replicate_more, drop_all, take_all}
+use Rattle.std.proofs.lemmas.List.Edits.{length-paste, paste_all, paste-paste}
+use Rattle.std.proofs.lemmas.Slice.{put_mid-paste}
+use Rattle.store.specs.Gap.{closed}
 
--- a part has its size
-part_size : (xs : List ℕ) (at n : ℕ) → at + n ≤ length xs → length (bytes_at xs at n) ≡ n
-unfolding bytes_at
-part_size xs at n h = rw (length-take, length-drop) (omega arith)
+-- one element more is filled
+pub filled_more : {A : Type 0} → (old : List A) (i : ℕ) (zero : A) → i < length old → set (replicate i zero ++ drop i old) i zero ≡ replicate (i + 1) zero ++ drop (i + 1) old
+filled_more old i zero h =
+    let next : set (drop i old) (i - i) zero ≡ zero ∷ drop (i + 1) old = rw (drop_more old i zero h) (let z : i - i ≡ 0 = omega arith in rw z) in
+    set-append_right (replicate i zero) (drop i old) i i zero (length-replicate i zero) (omega arith)
+    ∙ rw (next, ← replicate_more) (simp append_assoc)
 
--- so many of the elements behind a gap were moved
-pub record Moving (old : List ℕ) (at gap n : ℕ) (new : List ℕ) (i : ℕ) : Type 0 where
-  pub moves : Writing old at (bytes_at old (at + gap) n) (drop i (bytes_at old (at + gap) n)) new (at + i)
-  pub inside : i ≤ n
-  pub within : at + gap + n ≤ length old
-  pub size : length new ≡ length old
+-- a part is moved down over the gap, and what it leaves is filled
+pub closes : {A : Type 0} → (old mid ys : List A) (at gap n k i : ℕ) (zero : A) → at + gap + n ≤ length old
+    → mid ≡ paste old at (drop (at + gap) old) (at + gap + n - (at + gap)) → k ≡ at + gap + n - (at + n)
+    → ys ≡ replicate i zero ++ drop i (take k (drop (at + n) mid)) → i ≡ length (take k (drop (at + n) mid))
+    → put_mid (at + n) k mid ys ≡ closed old at gap n zero
+unfolding closed
+closes old mid ys at gap n k i zero h e q f p =
+    let part = take n (drop (at + gap) old) in
+    let size : length part ≡ n = rw (length-take, length-drop) (omega arith) in
+    let moved : at + gap + n - (at + gap) ≡ n = omega arith in
+    let once : take n part ≡ part = take_all n part (omega arith) in
+    let is : mid ≡ paste old at part n = e ∙ rw (moved, once) in
+    let whole : length mid ≡ length old = ap length is ∙ length-paste old at part n (omega arith) (omega arith) in
+    let all : i ≡ gap = p ∙ rw (length-take, length-drop) (omega arith) in
+    let ends : ys ≡ replicate gap zero = f ∙ rw (drop_all i (take k (drop (at + n) mid)) (omega arith), all) (append-nil _) in
+    let there : at + (n + gap) ≡ at + gap + n = omega arith in
+    put_mid-paste (at + n) k mid ys (replicate gap zero) gap ends (omega arith) (sym (length-replicate gap zero))
+    ∙ ap (λ xs. paste xs (at + n) (replicate gap zero) gap) is
+    ∙ paste-paste old at part (replicate gap zero) n gap (sym size) (sym (length-replicate gap zero)) (omega arith)
+    ∙ paste_all old at (part ++ replicate gap zero) (n + gap) (rw (length-append, length-replicate) (omega arith))
+    ∙ rw there (simp append_assoc)
 
-pub moving_begins : (old : List ℕ) (at gap n : ℕ) → at + gap + n ≤ length old → Moving old at gap n old 0
-moving_begins old at gap n h =
-    record { moves = copy_begins old at _ (rw (part_size old (at + gap) n h) (omega arith)); inside = omega arith; within = h; size = refl }
-
--- the next of them is where it was
-moving_next : (old : List ℕ) (at gap n : ℕ) (new : List ℕ) (i : ℕ) → Moving old at gap n new i → i < n
-    → get_or new (at + gap + i) 0 ≡ get_or (bytes_at old (at + gap) n) i 0
-unfolding bytes_at
-moving_next old at gap n new i m h =
-    let behind : drop (at + i) new ≡ drop (at + i) old = writes_drop old at _ new (at + i) m.moves.writes in
-    let here : at + gap + i ≡ at + i + gap = omega arith in
-    ap (λ j. get_or new j 0) here
-    ∙ sym (get_or-drop (at + i) new gap 0)
-    ∙ ap (λ xs. get_or xs gap 0) behind
-    ∙ get_or-drop (at + i) old gap 0
-    ∙ ap (λ j. get_or old j 0) (sym here)
-    ∙ sym (get_or-take n (drop (at + gap) old) i 0 h ∙ get_or-drop (at + gap) old i 0)
-
-pub moving_turns : (old : List ℕ) (at gap n : ℕ) (new : List ℕ) (i from : ℕ) → Moving old at gap n new i → i < n → from ≡ at + gap
-    → Moving old at gap n (set new (at + i) (get_or new (from + i) 0)) (i + 1)
-moving_turns old at gap n new i from m h e =
-    let size : length (bytes_at old (at + gap) n) ≡ n = part_size old (at + gap) n m.within in
-    let w = copy_turns old at (bytes_at old (at + gap) n) new i m.moves (omega arith) in
-    let same : get_or new (from + i) 0 ≡ get_or (bytes_at old (at + gap) n) i 0 = rw e (moving_next old at gap n new i m h) in
-    record {
-      moves = rw same w;
-      inside = omega arith;
-      within = m.within;
-      size = rw same (writes_length old at _ _ _ w.writes);
-    }
-
-pub moving_ends : (old : List ℕ) (at gap n : ℕ) (new : List ℕ) (i : ℕ) → Moving old at gap n new i → n ≤ i → Writes old at (bytes_at old (at + gap) n) new (at + i)
-moving_ends old at gap n new i m h =
-    copy_ends old at _ new i m.moves (rw (part_size old (at + gap) n m.within) h)
-
--- so many zeros were written
-pub record Wiping (old : List ℕ) (at n : ℕ) (new : List ℕ) (i : ℕ) : Type 0 where
-  pub wipes : Writes old at (zeros i) new (at + i)
-  pub inside : i ≤ n
-  pub within : at + n ≤ length old
-  pub size : length new ≡ length old
-
-pub wiping_begins : (old : List ℕ) (at n : ℕ) → at + n ≤ length old → Wiping old at n old 0
-unfolding zeros
-wiping_begins old at n h =
-    let here : at + 0 ≡ at = omega arith in
-    record { wipes = rw here (writes_none old at (omega arith)); inside = omega arith; within = h; size = refl }
-
-pub wiping_turns : (old : List ℕ) (at n : ℕ) (new : List ℕ) (i : ℕ) → Wiping old at n new i → i < n → Wiping old at n (set new (at + i) 0) (i + 1)
-unfolding zeros
-wiping_turns old at n new i m h =
-    let more : ◌++◌ {A = ℕ} (replicate i 0) (0 ∷ []) ≡ replicate (i + 1) 0 = replicate-append-replicate i 1 0 in
-    let end : at + i + 1 ≡ at + (i + 1) = omega arith in
-    let w : Writes old at (replicate (i + 1) 0) (set new (at + i) 0) (at + (i + 1)) =
-    rw (more, end) at (writes_then old at (replicate i 0) new (at + i) (0 ∷ []) (set new (at + i) 0) (at + i + 1) m.wipes (writes_set new (at + i) 0 (omega (arith, m.size, m.within)))) in
-    record { wipes = w; inside = omega arith; within = m.within; size = writes_length old at _ _ _ w }
-
-pub wiping_ends : (old : List ℕ) (at n : ℕ) (new : List ℕ) (i : ℕ) → Wiping old at n new i → n ≤ i → Writes old at (zeros n) new (at + n)
-wiping_ends old at n new i m h = let same : i ≡ n = omega (arith, m.inside) in rw same at m.wipes
-
--- what was moved, and the zeros behind it
-pub closes : (old mid new : List ℕ) (at gap n next : ℕ) → at + gap + n ≤ length old → Writes old at (bytes_at old (at + gap) n) mid next → Writes mid next (zeros gap) new (next + gap)
-    → Writes old at (bytes_at old (at + gap) n ++ zeros gap) new (at + n + gap)
-closes old mid new at gap n next h a b =
-    let here : next ≡ at + n = a.ends ∙ rw (part_size old (at + gap) n h) in
-    let w = writes_then old at _ mid next _ new (next + gap) a b in
-    rw here at w
-
--- there is room for the zeros
-pub closes_room : (old mid : List ℕ) (at gap n next : ℕ) → at + gap + n ≤ length old → Writes old at (bytes_at old (at + gap) n) mid next → next + gap ≤ length mid
-closes_room old mid at gap n next h a =
-    omega (arith, a.ends, part_size old (at + gap) n h, writes_length old at _ mid next a)
+-- the front of a list is wiped
+pub wipes : (old part : List ℕ) (n : ℕ) → n ≤ length old → (((y : ℕ) → y ≡ 0 → y ≡ 0) → part ≡ replicate (length (take n old)) 0)
+    → part ++ drop n old ≡ replicate n 0 ++ drop n old
+wipes old part n h f = let size : length (take n old) ≡ n = rw length-take (omega arith) in rw (f (λ y e. e), size)

@@ -3,9 +3,6 @@ use mathlib.Core.Path.{◌≡◌, refl, sym, ◌∙◌}
 use mathlib.Core.List.{List, [], ◌∷◌, ◌++◌, map, map-append, append_assoc, append-nil}
 use Prim.Native.Nat.{ℕ, ◌+◌, ◌-◌, ◌*◌, ◌≤◌, ◌<◌}
 use native.Mathlib.Omega.{arith}
-use mathlib.Core.Bool.{Bool, false, ◌&&◌}
-use lib.Dec.{ltb}
-use borrow.Author.Tests.{lt-ltb, le-ltb}
 use lib.ListN.{length, set, replicate, length-append, length-take, length-map}
 use Rattle.text.specs.Write.{Writes, written, padded}
 use Rattle.text.proofs.Padded.{padded_write, padded_set, padded_zeros, filled}
@@ -106,11 +103,3 @@ joins self name text all names used end h a b =
       joins = λ es e.
           rw e (packed_joins es name text all names used end (rw e at h.few) (rw e at h.room) h.short (rw e at a) (rw e at b));
     }
-
--- eight forms are there
-pub room_full : (count : ℕ) (t : Bool) → 8 ≤ count → false ≡ (ltb count 8 && t)
-room_full count t h = rw (le-ltb count 8 h)
-
--- or the bytes left decide
-pub room_bytes : (count : ℕ) (t : Bool) → count < 8 → t ≡ (ltb count 8 && t)
-room_bytes count t h = rw (lt-ltb count 8 h)

@@ -12,7 +12,8 @@ use Rattle.paper.specs.Byte.{same}
 use Rattle.paper.proofs.Law.{if_true, if_false}
 use Rattle.store.specs.Packed.{Store, texts_of, Kept, name_in, find_from}
 use Rattle.store.specs.Lent.{Stocked}
-use Rattle.store.specs.declared.Found.TheVariants.{At, Absent}
+use Rattle.std.specs.Prelude.{Option, Some, None}
+use Rattle.store.specs.declared.Found.{Found}
 use Rattle.store.proofs.Look.{form_at, counts, len_at, size_at, name_at, len_short, size_room, drop_form, start_of, start_more}
 
 -- the name was not found before the form at a number, whose text begins at a place
@@ -47,7 +48,7 @@ next_left self name i start k h = rw (drop_form k.forms i (omega (arith, counts 
 
 pub seek_finds : (self : Store) (name : List ℕ) (i start len size : ℕ) (t : Bool) → Seeking self name i start → i < self.count
     → len ≡ get_or self.lens i 0 → size ≡ get_or self.texts i 0
-    → t ≡ same name (name_in self.names i len) → t ≡ true → (k : Kept self) → At i start size ≡ find_from 0 0 name k.forms
+    → t ≡ same name (name_in self.names i len) → t ≡ true → (k : Kept self) → Some (record { index = i; start = start; len = size }) ≡ find_from 0 0 name k.forms
 unfolding find_from
 seek_finds self name i start len size t s h l z e y k =
     let is : same name (form_at k.forms i).name ≡ true = rw (← compared self name i start len k s h l, ← e) y in
@@ -67,7 +68,7 @@ seek_turns self name i start len size t kept s h l z e n =
     }
 
 pub seek_ends : (self : Store) (name : List ℕ) (i start : ℕ) → Seeking self name i start → self.count ≤ i
-    → (k : Kept self) → Absent ≡ find_from 0 0 name k.forms
+    → (k : Kept self) → ◌≡◌ {A = Option Found} None (find_from 0 0 name k.forms)
 unfolding find_from
 seek_ends self name i start s h k =
     sym (s.left k ∙ rw (drop_of_length-le k.forms {i = i} (omega (arith, counts self k))))

@@ -1,10 +1,6 @@
--- Parts of memory, and zeros.
-use Rattle.std.specs.Prelude.{ℕ, List, take, drop, replicate}
+-- Memory in which a gap is closed.
+use Rattle.std.specs.Prelude.{ℕ, ◌+◌, List, ◌++◌, take, drop, replicate}
 
--- so many elements from a place on
-unfoldable pub bytes_at : List ℕ → ℕ → ℕ → List ℕ
-bytes_at text start size = take size (drop start text)
-
--- so many zeros
-unfoldable pub zeros : ℕ → List ℕ
-zeros n = replicate n 0
+-- so many elements from behind a gap are moved down over it, and the part that they leave is filled with one element
+unfoldable pub closed : {A : Type 0} → List A → (at gap n : ℕ) → A → List A
+closed old at gap n zero = take at old ++ (take n (drop (at + gap) old) ++ replicate gap zero ++ drop (at + gap + n) old)

@@ -1,5 +1,5 @@
 -- A store whose memory is lent: the numbers that go by value and the slices, gathered into the store that they are.
-use Rattle.std.specs.Prelude.{ℕ, ◌+◌, ◌≤◌, ◌<◌, ◌≡◌, List, [], ◌∷◌, ◌++◌, length}
+use Rattle.std.specs.Prelude.{ℕ, ◌+◌, ◌≤◌, ◌<◌, ◌≡◌, List, [], ◌∷◌, ◌++◌, length, Option}
 use Rattle.store.specs.Packed.{Store, Entry, entry, texts_of, packed, Kept, find_from, lines_of, listing_of}
 use Rattle.text.specs.Write.{Writes}
 use Rattle.store.specs.declared.Filed.{Filed}
@@ -21,7 +21,7 @@ pub record Stocked (store : Store) : Type 0 where
   pub lens : length store.lens ≡ 8
 
 -- the form of a name is found where it stands
-pub record Finds (store : Store) (name : List ℕ) (r : Found) : Type 0 where
+pub record Finds (store : Store) (name : List ℕ) (r : Option Found) : Type 0 where
   pub finds : (k : Kept store) → r ≡ find_from 0 0 name k.forms
 
 -- there is room for a form

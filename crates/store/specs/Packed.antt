@@ -1,10 +1,9 @@
 -- A store's memory as a function of the forms that it holds: names and texts one behind the other, and 0 behind them.
-use Rattle.std.specs.Prelude.{ℕ, suc, ◌+◌, ◌*◌, ◌≤◌, List, [], ◌∷◌, ◌++◌, map, length, take, drop, replicate, ◌≡◌}
+use Rattle.std.specs.Prelude.{ℕ, suc, ◌+◌, ◌*◌, ◌≤◌, List, [], ◌∷◌, ◌++◌, map, length, take, drop, replicate, ◌≡◌, Option, Some, None}
 use Rattle.paper.specs.Byte.{bytes, when◌then◌else◌, same}
 use Rattle.paper.specs.Line.{lf}
 use Rattle.text.specs.Write.{padded}
 use Rattle.store.specs.declared.Found.{Found}
-use Rattle.store.specs.declared.Found.TheVariants.{At, Absent}
 
 -- a form as the store holds it
 pub record Entry : Type 0 where
@@ -67,11 +66,11 @@ pub record Kept (self : Store) : Type 0 where
   pub short : Short forms
 
 -- where the form of a name stands: its number, where its text begins and how long that is
-unfoldable pub find_from : (i start : ℕ) → List ℕ → List Entry → Found
-find_from i start name [] = Absent
+unfoldable pub find_from : (i start : ℕ) → List ℕ → List Entry → Option Found
+find_from i start name [] = None
 find_from i start name (e ∷ es) =
     when same name e.name then
-    At i start (length e.text)
+    Some (record { index = i; start = start; len = length e.text })
     else find_from (suc i) (start + length e.text) name es
 
 -- the names, each on a line

@@ -10,7 +10,7 @@ ghost use Rattle.store.specs.Lent.{store_of, Stocked, Finds, Spare, Joins, Stand
 
 pub mod gap;
 
-use crate::gap::{close_bytes, close_numbers, wipe_bytes, wipe_numbers};
+use crate::gap::close;
 use text::write::{put, put_all};
 
 const NAME: usize = 16;
@@ -20,38 +20,19 @@ const FORMS: usize = 8;
 const BYTES: usize = 4096;
 
 // The numbers of a store: the bytes of text that are used, and the forms.
-#[derive(Clone, Copy)]
+// Kept: the lengths of texts and of names lie in two slices beside the names, as store_of and packed_shelf lay out the memory that is lent, which freed_memory is about.
+#[derive(Clone, Copy, Debug, PartialEq, Eq)]
 pub struct Filed {
     pub used: usize,
     pub count: usize,
 }
 
 // Where a form stands: its number, and its text's place and length.
-#[derive(Clone, Copy)]
-pub enum Found {
-    At {
-        index: usize,
-        start: usize,
-        len: usize,
-    },
-    Absent,
-}
-
-// Two texts have the same bytes.
-pub fn is_same(a: &[u8], b: &[u8]) -> bool
-    ensures { result ≡ same a.now b.now }
-{
-    if a.len() != b.len() {
-        return false;
-    }
-    let mut i = 0;
-    while i < a.len() {
-        if a[i] != b[i] {
-            return false;
-        }
-        i += 1;
-    }
-    true
+#[derive(Clone, Copy, Debug, PartialEq, Eq)]
+pub struct Found {
+    pub index: usize,
+    pub start: usize,
+    pub len: usize,
 }
 
 // The name of so many bytes in a slot is this one.
@@ -60,11 +41,10 @@ fn is_named(names: &[u8], i: usize, len: usize, name: &[u8]) -> bool
     ensures { result ≡ same name.now (name_in names.now i len) }
 {
     let from = i * NAME;
-    let to = from + len;
-    is_same(name, &names[from..to])
+    name == &names[from..from + len]
 }
 
-// The form of a name.
+// The form of a name, if there is one.
 pub fn find(
     filed: Filed,
     all: &[u8],
@@ -72,26 +52,19 @@ pub fn find(
     texts: &[usize],
     lens: &[usize],
     name: &[u8],
-) -> Found
+) -> Option<Found>
     requires { Stocked (store_of filed all.now names.now texts.now lens.now) }
     ensures { Finds (store_of filed all.now names.now texts.now lens.now) name.now result }
 {
-    let mut i = 0;
     let mut start = 0;
-    while i < filed.count {
-        let len = lens[i];
-        let size = texts[i];
-        if is_named(names, i, len, name) {
-            return Found::At {
-                index: i,
-                start,
-                len: size,
-            };
+    for index in 0..filed.count {
+        let len = texts[index];
+        if is_named(names, index, lens[index], name) {
+            return Some(Found { index, start, len });
         }
-        start += size;
-        i += 1;
+        start += len;
     }
-    Found::Absent
+    None
 }
 
 // There is room for one form more, of so many bytes.
@@ -99,10 +72,7 @@ pub fn has_room(filed: Filed, len: usize) -> bool
     requires { filed.used ≤ 4096 }
     ensures { result ≡ (ltb filed.count 8 && leb len (4096 - filed.used)) }
 {
-    if FORMS <= filed.count {
-        return false;
-    }
-    len <= BYTES - filed.used
+    filed.count < FORMS && len <= BYTES - filed.used
 }
 
 // One form more behind the others, for which there is room.
@@ -126,26 +96,25 @@ pub fn join(
     Filed { used, count: i + 1 }
 }
 
-// The form of a number leaves: those behind it move up in the order, and down in memory.
+// A form that was found leaves: those behind it move up in the order, and down in memory.
 pub fn remove(
     filed: Filed,
     all: &mut [u8],
     names: &mut [u8],
     texts: &mut [usize],
     lens: &mut [usize],
-    index: usize,
-    start: usize,
-    size: usize,
+    found: Found,
 ) -> Filed
-    requires { Stands (store_of filed all.old names.old texts.old lens.old) index start size }
-    ensures { Leaves (store_of filed all.old names.old texts.old lens.old) index start size (store_of result all.new names.new texts.new lens.new) }
+    requires { Stands (store_of filed all.old names.old texts.old lens.old) found.index found.start found.len }
+    ensures { Leaves (store_of filed all.old names.old texts.old lens.old) found.index found.start found.len (store_of result all.new names.new texts.new lens.new) }
 {
-    let used = filed.used - size;
+    let Found { index, start, len } = found;
+    let used = filed.used - len;
     let count = filed.count - 1;
-    close_bytes(all, start, size, used - start);
-    close_bytes(names, index * NAME, NAME, (count - index) * NAME);
-    close_numbers(texts, index, 1, count - index);
-    close_numbers(lens, index, 1, count - index);
+    close(all, start, len, used - start, 0);
+    close(names, index * NAME, NAME, (count - index) * NAME, 0);
+    close(texts, index, 1, count - index, 0);
+    close(lens, index, 1, count - index, 0);
     Filed { used, count }
 }
 
@@ -160,12 +129,11 @@ pub fn clear(
     requires { Stocked (store_of filed all.old names.old texts.old lens.old) }
     ensures { Clears (store_of result all.new names.new texts.new lens.new) }
 {
-    let used = filed.used;
     let count = filed.count;
-    wipe_bytes(all, 0, used);
-    wipe_bytes(names, 0, count * NAME);
-    wipe_numbers(texts, 0, count);
-    wipe_numbers(lens, 0, count);
+    all[..filed.used].fill(0);
+    names[..count * NAME].fill(0);
+    texts[..count].fill(0);
+    lens[..count].fill(0);
     Filed { used: 0, count: 0 }
 }
 
@@ -175,8 +143,7 @@ fn put_name(out: &mut [u8], at: usize, names: &[u8], i: usize, len: usize) -> us
     ensures { Writes out.old at (name_in names.now i len ++ (10 ∷ [])) out.new result }
 {
     let from = i * NAME;
-    let to = from + len;
-    let next = put_all(out, at, &names[from..to]);
+    let next = put_all(out, at, &names[from..from + len]);
     put(out, next, b'\n')
 }
 
@@ -195,11 +162,8 @@ fn put_names(
     ensures { Names (store_of filed all.now names.now texts.now lens.now) out.old at out.new result }
 {
     let mut next = at;
-    let mut i = 0;
-    while i < filed.count {
-        let len = lens[i];
-        next = put_name(out, next, names, i, len);
-        i += 1;
+    for i in 0..filed.count {
+        next = put_name(out, next, names, i, lens[i]);
     }
     next
 }

@@ -6,135 +6,85 @@
 // goes on where the one before it stopped.
 #![tactic(auto)]
 
-ghost use Rattle.std.specs.Prelude.{◌≤◌, ◌+◌, ◌≡◌, length};
-ghost use Rattle.streams.specs.Streams.{passing, tried, Tries, Reads, Writes};
+ghost use Rattle.std.specs.Prelude.{◌≡◌, false, length, IfOk, IfErr, IfSome};
+ghost use Rattle.streams.specs.Streams.{passing, tried, Reads, Writes, WritesSome};
 
 mod errors;
 mod say;
 mod sleep;
 
-use errors::{EAGAIN, EINTR, EIO, errno_of};
+pub use errors::Errno;
 pub use say::complain;
 pub use sleep::pause;
 use std::io;
 use std::rt::Clock;
 
-// A proved loop has to end, and nothing says that a signal or a full pipe does. So a loop counts calls that moved nothing
-// down from 2^47: at a pause of a millisecond each, that is over four thousand years.
+// A proved loop has to end, and nothing says that a signal or a full pipe does. So a loop makes at most 2^47 calls that move
+// nothing: at a pause of a millisecond each, that is over four thousand years.
 const CALLS: u64 = 0x8000_0000_0000;
 
-// What a read came to. `Bytes`: n of them stand at the start of the buffer, at least one.
-#[derive(Clone, Copy)]
-pub enum Read {
-    Bytes { n: usize },
-    End,
-    Failed { error: i32 },
-}
+// What is said of a stream where none of them got on: an error of input or output.
+const GIVEN_UP: Errno = Errno::EIO;
 
-// What a write of a whole buffer came to.
-#[derive(Clone, Copy)]
-pub enum Written {
-    Whole,
-    Failed { error: i32 },
-}
-
-// What one call came to: bytes moved, none moved and no error, one to make again, or an error.
-#[derive(Clone, Copy)]
-enum Tried {
-    Moved { n: usize },
-    Nothing,
-    Again,
-    Failed { error: i32 },
-}
-
-// Whether a call that failed with this error is to be made again. Where it would have blocked, a pause comes first.
-fn again(clock: &impl Clock, error: i32) -> bool
-    ensures { result ≡ passing error }
+// What a call came to: how many bytes it moved, or none where it is to be made again, for which a pause comes first where it would have
+// blocked.
+fn told(clock: &impl Clock, got: io::Result<usize>) -> Result<Option<usize>, Errno>
+    ensures value { result ≡ tried got }
+    ensures moved { IfOk result (λ o. IfSome o (λ n. got ≡ Ok n)) }
+    ensures failed { IfErr result (λ error. passing error ≡ false) }
 {
-    if error == EINTR {
-        return true;
+    let error = match got {
+        Ok(n) => return Ok(Some(n)),
+        Err(e) => Errno::from(e),
+    };
+    if error == Errno::EINTR {
+        return Ok(None);
     }
-    if error == EAGAIN {
+    if error == Errno::EAGAIN {
         pause(clock);
-        return true;
+        return Ok(None);
     }
-    false
+    Err(error)
 }
 
-// What a call answered, with the errno that it left, told apart.
-fn told(clock: &impl Clock, got: isize, error: i32, n: usize) -> Tried
-    ensures { result ≡ tried got error n }
-{
-    if 0 < n {
-        return Tried::Moved { n };
-    }
-    if got == 0 {
-        return Tried::Nothing;
-    }
-    if again(clock, error) {
-        return Tried::Again;
-    }
-    Tried::Failed { error }
-}
-
-// One read.
-fn read_once(clock: &impl Clock, from: &mut impl io::Read, buf: &mut [u8]) -> Tried
-    ensures { Tries (length buf.old) result }
-{
-    match from.read(buf) {
-        Ok(n) => told(clock, n as isize, 0, n),
-        Err(e) => told(clock, -1, errno_of(&e), 0),
-    }
-}
-
-// One write.
-fn write_once(clock: &impl Clock, to: &mut impl io::Write, buf: &[u8]) -> Tried
-    ensures { Tries (length buf.now) result }
-{
-    match to.write(buf) {
-        Ok(n) => told(clock, n as isize, 0, n),
-        Err(e) => told(clock, -1, errno_of(&e), 0),
-    }
-}
-
-// Reads once, as soon as there is something to read.
-pub fn read_some(clock: &impl Clock, from: &mut impl io::Read, buf: &mut [u8]) -> Read
+// Reads once, as soon as there is something to read: how many bytes stand at the start of the buffer, and 0 where the input has ended.
+pub fn read_some(
+    clock: &impl Clock,
+    from: &mut impl io::Read,
+    buf: &mut [u8],
+) -> Result<usize, Errno>
     ensures { Reads buf.new result }
 {
-    let mut calls = CALLS;
-    while 0 < calls {
-        let tried = read_once(clock, from, buf);
-        match tried {
-            Tried::Moved { n } => return Read::Bytes { n },
-            Tried::Nothing => return Read::End,
-            Tried::Failed { error } => return Read::Failed { error },
-            Tried::Again => {}
+    for _ in 0..CALLS {
+        if let Some(n) = told(clock, from.read(buf))? {
+            return Ok(n);
         }
-        calls -= 1;
     }
-    Read::Failed { error: EIO }
+    Err(GIVEN_UP)
 }
 
-// Writes all of buf. A write that takes no byte and says no error counts as one that would block.
-pub fn write_whole(clock: &impl Clock, to: &mut impl io::Write, buf: &[u8]) -> Written
-    ensures { Writes (length buf.now) result }
+// Writes once, as soon as a byte is taken. A write that takes no byte and says no error counts as one that would block.
+fn write_some(clock: &impl Clock, to: &mut impl io::Write, buf: &[u8]) -> Result<usize, Errno>
+    ensures { WritesSome (length buf.now) result }
 {
-    let mut at = 0;
-    let mut calls = CALLS;
-    while at < buf.len() {
-        if calls == 0 {
-            return Written::Failed { error: EIO };
-        }
-        let tried = write_once(clock, to, &buf[at..]);
-        match tried {
-            Tried::Moved { n } => at += n,
-            Tried::Nothing => {
-                pause(clock);
-                calls -= 1;
-            }
-            Tried::Failed { error } => return Written::Failed { error },
-            Tried::Again => calls -= 1,
+    for _ in 0..CALLS {
+        match told(clock, to.write(buf))? {
+            Some(0) => pause(clock),
+            Some(n) => return Ok(n),
+            None => {}
         }
     }
-    Written::Whole
+    Err(GIVEN_UP)
+}
+
+// Writes all of buf.
+pub fn write_whole(clock: &impl Clock, to: &mut impl io::Write, buf: &[u8]) -> Result<(), Errno>
+    ensures { Writes (length buf.now) result }
+{
+    let mut rest = buf;
+    while !rest.is_empty() {
+        let n = write_some(clock, to, rest)?;
+        rest = &rest[n..];
+    }
+    Ok(())
 }

@@ -9,6 +9,7 @@ use lib.ListN.{length}
 use lib.Seq.{take-append_seam}
 use lib.Dec.{ltb, eqb}
 use borrow.Author.Tests.{ltb-false, ne_eqb}
+use Rattle.std.specs.Prelude.{Result, Ok, Err}
 use Rattle.paper.specs.Byte.{when◌then◌else◌}
 use Rattle.paper.specs.Refusal as R
 use Rattle.paper.specs.Form.{Form, is_some}
@@ -18,8 +19,7 @@ use Rattle.paper.specs.Diary.{is_for, diary}
 use Rattle.paper.proofs.Test.{either}
 use Rattle.command.specs.View.{width}
 use Rattle.command.specs.Answer.{Reports, Meets}
-use Rattle.command.specs.declared.Answer.{Answer}
-use Rattle.command.specs.declared.Answer.TheVariants as A
+use Rattle.command.specs.declared.Refusal.{Refusal}
 use Rattle.session.specs.Memory.{drafting, drafts, holding, holds, packed_session}
 use Rattle.seats.specs.Numbers.{code_of}
 use Rattle.seats.specs.Seats.{seat_of}
@@ -31,12 +31,12 @@ use Rattle.tablets.proofs.Leaving.{reached_tag}
 use Rattle.tablets.proofs.Left.{counts_prints}
 
 -- what a call told is what the paper answers
-pub meets_told : (a : R.Answer) (old new : List ℕ) (r : Answer) → Meets a old new r → told_by r new ≡ a
+pub meets_told : (a : R.Answer) (old new : List ℕ) (r : Result ℕ Refusal) → Meets a old new r → told_by r new ≡ a
 unfolding Reports R.lent told_by
-meets_told (R.accepted bytes) old new (A.Accepted len) m = ap R.accepted (rw (m.reports, m.buffer) (take-append_seam bytes _))
-meets_told (R.accepted bytes) old new (A.Refused why) m = absurd m.reports
-meets_told (R.refused r) old new (A.Accepted len) m = absurd m.reports
-meets_told (R.refused r) old new (A.Refused why) m = ap R.refused m.reports
+meets_told (R.accepted bytes) old new (Ok len) m = ap R.accepted (rw (m.reports, m.buffer) (take-append_seam bytes _))
+meets_told (R.accepted bytes) old new (Err why) m = absurd m.reports
+meets_told (R.refused r) old new (Ok len) m = absurd m.reports
+meets_told (R.refused r) old new (Err why) m = ap R.refused m.reports
 
 -- a line is for its sender
 line_whose : (t u room : ℕ) (c : Class) (s : List ℕ) → t < 30 → eqb t u ≡ is_for t (hear_from width room c u s).whose
@@ -51,19 +51,19 @@ seat_whose t none l = ne_eqb t 30 (omega arith)
 seat_whose t (some u) l = refl
 
 -- an accepted take told the tablet that it serves
-seat_served : (room u : ℕ) (a : R.Answer) (r : Answer) (later : List ℕ) → Reports r a → served_on takes r u later ≡ served_by (fetches room) a (some u) later
+seat_served : (room u : ℕ) (a : R.Answer) (r : Result ℕ Refusal) (later : List ℕ) → Reports r a → served_on takes r u later ≡ served_by (fetches room) a (some u) later
 unfolding Reports served_on served_by
-seat_served room u (R.accepted bytes) (A.Accepted len) later p = refl
-seat_served room u (R.accepted bytes) (A.Refused why) later p = absurd p
-seat_served room u (R.refused x) (A.Accepted len) later p = absurd p
-seat_served room u (R.refused x) (A.Refused why) later p = refl
+seat_served room u (R.accepted bytes) (Ok len) later p = refl
+seat_served room u (R.accepted bytes) (Err why) later p = absurd p
+seat_served room u (R.refused x) (Ok len) later p = absurd p
+seat_served room u (R.refused x) (Err why) later p = refl
 
-nobody_served : (u : ℕ) (x : R.Refusal) (r : Answer) (later : List ℕ) → Reports r (R.refused x) → served_on takes r u later ≡ later
+nobody_served : (u : ℕ) (x : R.Refusal) (r : Result ℕ Refusal) (later : List ℕ) → Reports r (R.refused x) → served_on takes r u later ≡ later
 unfolding Reports served_on
-nobody_served u x (A.Accepted len) later p = absurd p
-nobody_served u x (A.Refused why) later p = refl
+nobody_served u x (Ok len) later p = absurd p
+nobody_served u x (Err why) later p = refl
 
-turn_served : (room : ℕ) (c : Class) (o : Option ℕ) (r : Answer) (later : List ℕ) → Reports r (serve room c o).answer
+turn_served : (room : ℕ) (c : Class) (o : Option ℕ) (r : Result ℕ Refusal) (later : List ℕ) → Reports r (serve room c o).answer
     → served_on takes r (seat_of (serve room c o).whose) later ≡ served_by (fetches room) (serve room c o).answer (serve room c o).whose later
 unfolding serve reply denied seat_of served_by
 turn_served room c none r later p = nobody_served 30 R.not_printing r later p
@@ -71,14 +71,14 @@ turn_served room c (some u) r later p = seat_served room u _ r later p
 
 -- what a call that was made gives, by the paper's: its answer with the buffer, memory that leads on with the paper's next class, and
 -- the tablet that it was for
-pub record Steps (self : Memory) (k : Reached self) (q : Request) (what : Kind) (old : List ℕ) (next : Memory) (new : List ℕ) (whose : ℕ) (r : Answer) : Type 0 where
+pub record Steps (self : Memory) (k : Reached self) (q : Request) (what : Kind) (old : List ℕ) (next : Memory) (new : List ℕ) (whose : ℕ) (r : Result ℕ Refusal) : Type 0 where
   pub meets : Meets (reply_to width k.class q).answer old new r
   pub reached : Reached next
   pub class : reached.class ≡ (reply_to width k.class q).next
   pub mine : (t : ℕ) → t < 30 → eqb t whose ≡ is_for t (reply_to width k.class q).whose
   pub serves : (later : List ℕ) → served_on what r whose later ≡ served_by q (reply_to width k.class q).answer (reply_to width k.class q).whose later
 
-pub made_steps : (self : Memory) (k : Reached self) (what : Kind) (old : List ℕ) (next : Memory) (new : List ℕ) (whose : ℕ) (r : Answer)
+pub made_steps : (self : Memory) (k : Reached self) (what : Kind) (old : List ℕ) (next : Memory) (new : List ℕ) (whose : ℕ) (r : Result ℕ Refusal)
     → PromisedBy self what old next new whose r → Steps self k (request_for (length old) what) what old next new whose r
 unfolding reply_to request_for hears_on takes_on served_on served_by take_next
 made_steps self k (hears t s) old next new whose r p =

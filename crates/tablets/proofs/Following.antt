@@ -8,6 +8,7 @@ use native.Mathlib.Omega.{arith}
 use lib.ListN.{length, take, drop, get_or, length-append, length-drop}
 use lib.Seq.{take_at, drop_at}
 use lib.Dec.{eqb}
+use Rattle.std.specs.Prelude.{Option, Result, Ok, Some}
 use Rattle.paper.specs.Byte.{when◌then◌else◌, every, same}
 use Rattle.paper.specs.Line.{kept}
 use Rattle.paper.specs.Command as C
@@ -22,7 +23,7 @@ use Rattle.paper.proofs.Others.{some_none, may_strike, each_other}
 use Rattle.paper.proofs.Apart.{seat_own, seat_other, free_reply}
 use Rattle.command.specs.View.{width}
 use Rattle.command.specs.Answer.{Meets}
-use Rattle.command.specs.declared.Answer.{Answer}
+use Rattle.command.specs.declared.Refusal.{Refusal}
 use Rattle.session.specs.Memory.{Session, Shelf, packed_session, packed_shelf, number_of}
 use Rattle.session.specs.Outcome.{after_line}
 use Rattle.session.specs.declared.state.Held.{Held}
@@ -32,8 +33,7 @@ use Rattle.seats.proofs.Gone.{rests_lowered, leaves_lowered}
 use Rattle.call.specs.Call.{Memory}
 use Rattle.lend.specs.Laid.{numbered, laid_out, SeatHears}
 use Rattle.guard.specs.Guarded.{Takes, Guarding}
-use Rattle.guard.specs.declared.Guard.{Guard}
-use Rattle.guard.specs.declared.Guard.TheVariants as G
+use Rattle.guard.specs.declared.Leaving.{Leaving}
 use Rattle.tablets.specs.Calls.{packed_tablet, packed_with, packed_class, Reached, Warns, HearsLine}
 use Rattle.tablets.proofs.Leading.{hears_on, reached_sane}
 use Rattle.tablets.proofs.Packed.{packed_seated}
@@ -140,11 +140,11 @@ unfolding laid_out with_held
 follow_laid shelf f last printing n size = refl
 
 module _ (self : Memory) (t : ℕ) (l : t < 30) (s old : List ℕ) (idle : get_or self.held (t * 10) 0 ≡ 0) (shown : every is_shown s ≡ true) (k₀ : Reached self)
-    (g : Guard) (n size : ℕ) (warns : Warns self t s g) (e : g ≡ G.Leaves n size) (mid : Memory) (new : List ℕ) (r : Answer) (h : SeatHears self t s old mid new r)
+    (g : Option Leaving) (n size : ℕ) (warns : Warns self t s (Ok g)) (e : g ≡ Some (record { n = n; size = size })) (mid : Memory) (new : List ℕ) (r : Result ℕ Refusal) (h : SeatHears self t s old mid new r)
     (held : List ℕ) (follows : (f : ℕ → Session) (last printing : ℕ) → mid.held ≡ numbered f last printing → held ≡ numbered (λ k. with_held (lowered n size (f k).held) (f k)) last printing) where
   leaves_takes : (k : Reached self) → Takes k.class t (filing_of width (k.class.tablet t).session s) n size
   unfolding Guarding
-  leaves_takes k = let w = idle_guards self t l s old idle shown k₀ g warns k in rw e at w
+  leaves_takes k = let w = idle_guards self t l s old idle shown k₀ (Ok g) warns k in rw e at w
 
   leaves_memory : (k : Reached self) → with_numbers mid held ≡ packed_class (hear_from width (length old) k.class t s).next
   unfolding packed_class laid_out

@@ -7,6 +7,7 @@ use mathlib.Core.Option.{none, some}
 use lib.ListN.{length, take, get_or}
 use lib.Dec.{eqb}
 use borrow.Author.Tests.{eqb-true, lt-ltb, le-ltb}
+use Rattle.std.specs.Prelude.{Option, Result, Ok, Err, None}
 use Rattle.paper.specs.Byte.{when◌then◌else◌, every}
 use Rattle.paper.specs.Line.{kept, long, control}
 use Rattle.paper.specs.Command.{is_shown}
@@ -24,8 +25,6 @@ use Rattle.paper.proofs.Apart.{seat_own, seat_other}
 use Rattle.paper.proofs.ClassRefused.{tablet_over}
 use Rattle.command.specs.View.{width, refusal_of}
 use Rattle.command.specs.Answer.{Reports}
-use Rattle.command.specs.declared.Answer.{Answer}
-use Rattle.command.specs.declared.Answer.TheVariants as A
 use Rattle.command.specs.declared.Refusal.{Refusal}
 use Rattle.command.specs.declared.Refusal.TheVariants as W
 use Rattle.store.specs.Lent.{store_of}
@@ -34,8 +33,7 @@ use Rattle.call.specs.Call.{Memory}
 use Rattle.call.proofs.Calling.{ReadsFiled}
 use Rattle.lend.specs.Laid.{SeatHears}
 use Rattle.guard.specs.Guarded.{Frees, Watching, Guarding, Guards}
-use Rattle.guard.specs.declared.Guard.{Guard}
-use Rattle.guard.specs.declared.Guard.TheVariants as G
+use Rattle.guard.specs.declared.Leaving.{Leaving}
 use Rattle.tablets.specs.Calls.{packed_class, Reached, Warns, HearsLine}
 use Rattle.tablets.proofs.Leading.{hears_on, reached_sane}
 use Rattle.tablets.proofs.Counting.{idle_silent}
@@ -43,7 +41,7 @@ use Rattle.tablets.proofs.Hearing.{quiet_hears, reply_quiet}
 use Rattle.tablets.proofs.Leaving.{fault_frees, reached_idle, reached_quiet, answer_frees, idle_files, reached_watches}
 
 -- a refusal that changes nothing
-same_hears : (self : Memory) (t : ℕ) (s old : List ℕ) (why : Refusal) (r : Answer) → r ≡ A.Refused why → Reached self
+same_hears : (self : Memory) (t : ℕ) (s old : List ℕ) (why : Refusal) (r : Result ℕ Refusal) → r ≡ Err why → Reached self
     → ((k : Reached self) → (hear_from width (length old) k.class t s).answer ≡ R.refused (refusal_of why))
     → ((k : Reached self) → packed_class (hear_from width (length old) k.class t s).next ≡ packed_class k.class)
     → HearsLine self t s old self old r
@@ -57,7 +55,7 @@ same_hears self t s old why r e k₀ says stays =
     }
 
 -- no such tablet
-pub over_hears : (self : Memory) (t : ℕ) (s old : List ℕ) (r : Answer) → 30 ≤ t → r ≡ A.Refused W.NoTablet → Reached self → HearsLine self t s old self old r
+pub over_hears : (self : Memory) (t : ℕ) (s old : List ℕ) (r : Result ℕ Refusal) → 30 ≤ t → r ≡ Err W.NoTablet → Reached self → HearsLine self t s old self old r
 unfolding denied refusal_of
 over_hears self t s old r h e k₀ =
     same_hears self t s old W.NoTablet r e k₀
@@ -65,7 +63,7 @@ over_hears self t s old r h e k₀ =
     (λ k. ap (λ (x : Reply). packed_class x.next) (tablet_over width (length old) k.class t s (le-ltb t 30 h)))
 
 -- an answer is asked for
-pub answer_hears : (self : Memory) (t : ℕ) → t < 30 → (s old : List ℕ) (mid : Memory) (new : List ℕ) (r : Answer) → SeatHears self t s old mid new r → get_or self.held (t * 10) 0 ≡ 4 → Reached self → HearsLine self t s old mid new r
+pub answer_hears : (self : Memory) (t : ℕ) → t < 30 → (s old : List ℕ) (mid : Memory) (new : List ℕ) (r : Result ℕ Refusal) → SeatHears self t s old mid new r → get_or self.held (t * 10) 0 ≡ 4 → Reached self → HearsLine self t s old mid new r
 answer_hears self t l s old mid new r h e k₀ =
     quiet_hears self t l s old mid new r h (λ k. answer_frees self k t l s e) k₀
     (λ k. reply_quiet k.class (reached_sane self k) t l s (length old) (answer_frees self k t l s e).free (reached_quiet self k t l (length old) s e))
@@ -98,7 +96,7 @@ fault_quiet room fs st s line n w c =
     ∙ ap (λ x. prints (P.heard width room fs st x).next.session) front
     ∙ control_quiet room fs st (take n line) c
 
-pub fault_hears : (self : Memory) (t : ℕ) → t < 30 → (s line : List ℕ) (n : ℕ) (old : List ℕ) (mid : Memory) (r : Answer) → Waits (kept s) line n → control (take n line) ≡ true
+pub fault_hears : (self : Memory) (t : ℕ) → t < 30 → (s line : List ℕ) (n : ℕ) (old : List ℕ) (mid : Memory) (r : Result ℕ Refusal) → Waits (kept s) line n → control (take n line) ≡ true
     → SeatHears self t s old mid old r → Reached self → HearsLine self t s old mid old r
 fault_hears self t l s line n old mid r w c h k₀ =
     quiet_hears self t l s old mid old r h (λ k. fault_frees self k t l s line n w c) k₀
@@ -136,7 +134,7 @@ module _ (c : Class) (sane : SaneClass width c) (t : ℕ) (l : t < 30) (s : List
   barred_class = ap (λ (x : Reply). x.next) barred_reply ∙ (λ i. record { forms = c.forms; tablet = λ j. barred_same j i; last = c.last })
 
 -- the others watch
-pub warns_by : (self : Memory) (t : ℕ) (l : t < 30) (s : List ℕ) (filed : Filed) → ReadsFiled self.filed filed → (g : Guard)
+pub warns_by : (self : Memory) (t : ℕ) (l : t < 30) (s : List ℕ) (filed : Filed) → ReadsFiled self.filed filed → (g : Result (Option Leaving) Refusal)
     → Guards (store_of filed self.all self.names self.texts self.lens) (take 300 self.held) t s g → Warns self t s g
 warns_by self t l s filed rf g b = record { guards = λ k. b.guards k.class (reached_watches self k t l filed rf) }
 
@@ -147,7 +145,7 @@ warned_watching self t l filed rf k = record { class = k.class; watches = reache
 -- a tablet that is Idle
 module _ (self : Memory) (t : ℕ) (l : t < 30) (s old : List ℕ) (idle : get_or self.held (t * 10) 0 ≡ 0) (shown : every is_shown s ≡ true) (k₀ : Reached self) where
   -- what they make of its line
-  pub idle_guards : (g : Guard) → Warns self t s g → (k : Reached self) → Guarding k.class t (filing_of width (k.class.tablet t).session s) g
+  pub idle_guards : (g : Result (Option Leaving) Refusal) → Warns self t s g → (k : Reached self) → Guarding k.class t (filing_of width (k.class.tablet t).session s) g
   idle_guards g b k = rw (idle_files self k t l s idle shown) (b.guards k)
 
   -- nobody prints behind it
@@ -158,26 +156,17 @@ module _ (self : Memory) (t : ℕ) (l : t < 30) (s old : List ℕ) (idle : get_o
       reply_quiet k.class (reached_sane self k) t l s (length old) free (rw (reached_idle self k t l idle) (idle_silent (length old) k.class.forms s))
 
   -- nothing
-  pub free_hears : (g : Guard) (mid : Memory) (new : List ℕ) (r : Answer) → Warns self t s g → g ≡ G.Free → SeatHears self t s old mid new r → HearsLine self t s old mid new r
+  pub free_hears : (g : Option Leaving) (mid : Memory) (new : List ℕ) (r : Result ℕ Refusal) → Warns self t s (Ok g) → g ≡ None → SeatHears self t s old mid new r → HearsLine self t s old mid new r
   unfolding Guarding
   free_hears g mid new r b e h =
-      let frees : (k : Reached self) → Frees k.class t (filing_of width (k.class.tablet t).session s) = λ k. let w = idle_guards g b k in rw e at w in
+      let frees : (k : Reached self) → Frees k.class t (filing_of width (k.class.tablet t).session s) = λ k. let w = idle_guards (Ok g) b k in rw e at w in
       quiet_hears self t l s old mid new r h frees k₀ (λ k. idle_quiet k (frees k).free)
 
-  -- 17
-  pub collected_hears : (g : Guard) (r : Answer) → Warns self t s g → g ≡ G.Collected → r ≡ A.Refused W.OthersCollect → HearsLine self t s old self old r
-  unfolding Guarding refusal_of
-  collected_hears g r b e q =
-      let bars : (k : Reached self) → barred k.class t (filing_of width (k.class.tablet t).session s) ≡ some R.others_collect = λ k. let w = idle_guards g b k in rw e at w in
-      same_hears self t s old W.OthersCollect r q k₀
-      (λ k. barred_says k.class (reached_sane self k) t l s (length old) (reached_idle self k t l idle) R.others_collect (bars k))
-      (λ k. ap packed_class (barred_class k.class (reached_sane self k) t l s (length old) (reached_idle self k t l idle) R.others_collect (bars k)))
-
-  -- 19
-  pub held_hears : (g : Guard) (r : Answer) → Warns self t s g → g ≡ G.HeldOpen → r ≡ A.Refused W.HeldOpen → HearsLine self t s old self old r
-  unfolding Guarding refusal_of
-  held_hears g r b e q =
-      let bars : (k : Reached self) → barred k.class t (filing_of width (k.class.tablet t).session s) ≡ some R.held_open = λ k. let w = idle_guards g b k in rw e at w in
-      same_hears self t s old W.HeldOpen r q k₀
-      (λ k. barred_says k.class (reached_sane self k) t l s (length old) (reached_idle self k t l idle) R.held_open (bars k))
-      (λ k. ap packed_class (barred_class k.class (reached_sane self k) t l s (length old) (reached_idle self k t l idle) R.held_open (bars k)))
+  -- a refusal
+  pub refused_hears : (why : Refusal) (r : Result ℕ Refusal) → Warns self t s (Err why) → r ≡ Err why → HearsLine self t s old self old r
+  unfolding Guarding
+  refused_hears why r b q =
+      let bars : (k : Reached self) → barred k.class t (filing_of width (k.class.tablet t).session s) ≡ some (refusal_of why) = idle_guards (Err why) b in
+      same_hears self t s old why r q k₀
+      (λ k. barred_says k.class (reached_sane self k) t l s (length old) (reached_idle self k t l idle) (refusal_of why) (bars k))
+      (λ k. ap packed_class (barred_class k.class (reached_sane self k) t l s (length old) (reached_idle self k t l idle) (refusal_of why) (bars k)))

@@ -9,6 +9,7 @@ use native.Mathlib.Omega.{arith}
 use lib.ListN.{length, get_or, set, length-append, get_or-append}
 use lib.Seq.{get_or_at, get_or-append-add}
 use lib.Dec.{eqb}
+use Rattle.std.specs.Prelude.{Result}
 use Rattle.paper.specs.Line.{kept}
 use Rattle.paper.specs.Command.{Filing}
 use Rattle.paper.specs.Bench as P
@@ -19,7 +20,7 @@ use Rattle.paper.proofs.Changes.{line_changes}
 use Rattle.paper.proofs.Count.{one_if, reply_count}
 use Rattle.command.specs.View.{width}
 use Rattle.command.specs.Answer.{Meets}
-use Rattle.command.specs.declared.Answer.{Answer}
+use Rattle.command.specs.declared.Refusal.{Refusal}
 use Rattle.session.specs.Memory.{Session, Shelf, packed_session, packed_shelf, number_of}
 use Rattle.session.specs.Outcome.{after_line}
 use Rattle.seats.specs.Seats.{flat, numbers_of}
@@ -150,7 +151,7 @@ module _ (c : Class) (printing : ℕ) where
   with_recount n =
       ap (with_numbers (packed_with c printing)) (numbered_recount (λ k. packed_tablet c.forms (c.tablet k)) c.last printing n)
 
-module _ (self : Memory) (t : ℕ) (l : t < 30) (s old : List ℕ) (mid : Memory) (new : List ℕ) (r : Answer) (h : SeatHears self t s old mid new r)
+module _ (self : Memory) (t : ℕ) (l : t < 30) (s old : List ℕ) (mid : Memory) (new : List ℕ) (r : Result ℕ Refusal) (h : SeatHears self t s old mid new r)
     (free : (k : Reached self) → Frees k.class t (filing_of width (k.class.tablet t).session s)) where
   -- the answer
   seat_meets : (k : Reached self) → Meets (hear_from width (length old) k.class t s).answer old new r

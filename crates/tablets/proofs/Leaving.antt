@@ -9,6 +9,7 @@ use lib.ListN.{length, take, get_or}
 use lib.Seq.{take_at, length-take-le}
 use lib.Dec.{eqb}
 use borrow.Author.Tests.{eq-eqb, eqb-true, eqb-false}
+use Rattle.std.specs.Prelude.{Result}
 use Rattle.paper.specs.Byte.{every}
 use Rattle.paper.specs.Line.{kept, long, control}
 use Rattle.paper.specs.Command.{is_shown, Filing}
@@ -24,7 +25,7 @@ use Rattle.paper.proofs.Dropped.{kept_clear}
 use Rattle.paper.proofs.Long.{read_first, line_first}
 use Rattle.paper.proofs.Others.{barred_none, busy_files, some_none}
 use Rattle.command.specs.View.{width}
-use Rattle.command.specs.declared.Answer.{Answer}
+use Rattle.command.specs.declared.Refusal.{Refusal}
 use Rattle.text.specs.Place.{byte_at}
 use Rattle.store.specs.Packed.{Store, packed}
 use Rattle.store.specs.Lent.{store_of}
@@ -169,7 +170,7 @@ module _ (self : Memory) (k : Reached self) (t : ℕ) (l : t < 30) where
 waits_from : (room : ℕ) (c : Class) (t : ℕ) (s line : List ℕ) (n : ℕ) → Waits (kept s) line n → hear_from width room c t (take n line) ≡ hear_from width room c t s
 waits_from room c t s line n w = ap (hear_from width room c t) w.front ∙ line_first width room c t s
 
-pub hears_waiting : (self : Memory) (t : ℕ) (s line : List ℕ) (n : ℕ) (old : List ℕ) (next : Memory) (new : List ℕ) (r : Answer) → Waits (kept s) line n → HearsLine self t (take n line) old next new r → HearsLine self t s old next new r
+pub hears_waiting : (self : Memory) (t : ℕ) (s line : List ℕ) (n : ℕ) (old : List ℕ) (next : Memory) (new : List ℕ) (r : Result ℕ Refusal) → Waits (kept s) line n → HearsLine self t (take n line) old next new r → HearsLine self t s old next new r
 hears_waiting self t s line n old next new r w h =
     record {
       reached = h.reached;

@@ -7,6 +7,7 @@ use mathlib.Core.List.{List, [], ◌∷◌, map}
 use lib.ListN.{length}
 use lib.Dec.{eqb}
 use borrow.Author.Tests.{eqb-true, le-ltb}
+use Rattle.std.specs.Prelude.{Result, Err}
 use Rattle.paper.specs.Refusal as R
 use Rattle.paper.specs.Bench as P
 use Rattle.paper.specs.Class.{Class, at_rest, denied, Reply, sends, reply_to, SaneClass}
@@ -17,8 +18,6 @@ use Rattle.paper.proofs.ClassRefused as Paper
 use Rattle.paper.proofs.ClassRefused.{Untouched, tablet_over, class_home}
 use Rattle.command.specs.View.{width, refusal_of}
 use Rattle.command.specs.Answer.{Reports}
-use Rattle.command.specs.declared.Answer.{Answer}
-use Rattle.command.specs.declared.Answer.TheVariants as A
 use Rattle.command.specs.declared.Refusal.{Refusal}
 use Rattle.command.specs.declared.Refusal.TheVariants as W
 use Rattle.command.proofs.Outcome.{meets_one, refused_keeps}
@@ -31,14 +30,14 @@ use Rattle.tablets.proofs.Taking.{reports_refused}
 use Rattle.tablets.proofs.Chain.{made_steps, chain_follows}
 
 -- `hear` has one outcome: the memory, the buffer and the answer
-pub hear_unique : (self : Memory) → Reached self → (t : ℕ) (s old : List ℕ) (next next' : Memory) (new new' : List ℕ) (r r' : Answer)
+pub hear_unique : (self : Memory) → Reached self → (t : ℕ) (s old : List ℕ) (next next' : Memory) (new new' : List ℕ) (r r' : Result ℕ Refusal)
     → HearsLine self t s old next new r → HearsLine self t s old next' new' r' → (next ≡ next') × (new ≡ new') × (r ≡ r')
 hear_unique self k t s old next next' new new' r r' p p' =
     let (buffer, answer) = meets_one _ old new new' r r' (p.meets k) (p'.meets k) in
     (p.leaves k ∙ sym (p'.leaves k), buffer, answer)
 
 -- `take` has one, with the tablet that it tells
-pub take_unique : (self : Memory) → Reached self → (old : List ℕ) (next next' : Memory) (new new' : List ℕ) (whose whose' : ℕ) (r r' : Answer)
+pub take_unique : (self : Memory) → Reached self → (old : List ℕ) (next next' : Memory) (new new' : List ℕ) (whose whose' : ℕ) (r r' : Result ℕ Refusal)
     → TakesSet self old next new whose r → TakesSet self old next' new' whose' r' → (next ≡ next') × (new ≡ new') × (whose ≡ whose') × (r ≡ r')
 take_unique self k old next next' new new' whose whose' r r' p p' =
     let (buffer, answer) = meets_one _ old new new' r r' (p.meets k) (p'.meets k) in
@@ -57,7 +56,7 @@ pub new_unique : (self self' : Memory) → Begins self → Begins self' → self
 new_unique self self' p p' = p.is ∙ sym p'.is
 
 -- a call as promised has one
-made_unique : (self : Memory) → Reached self → (what : Kind) (old : List ℕ) (next next' : Memory) (new new' : List ℕ) (whose whose' : ℕ) (r r' : Answer)
+made_unique : (self : Memory) → Reached self → (what : Kind) (old : List ℕ) (next next' : Memory) (new new' : List ℕ) (whose whose' : ℕ) (r r' : Result ℕ Refusal)
     → PromisedBy self what old next new whose r → PromisedBy self what old next' new' whose' r' → (next ≡ next') × (new ≡ new') × (whose ≡ whose') × (r ≡ r')
 made_unique self k (hears t s) old next next' new new' whose whose' r r' p p' =
     let (memory, buffer, answer) = hear_unique self k t s old next next' new new' r r' p.1 p'.1 in
@@ -94,7 +93,7 @@ pub record Refuses (c : Class) (t : ℕ) (r : R.Refusal) (old : List ℕ) (next 
   pub buffer : new ≡ old
 
 pub hear_refused : (self : Memory) (k : Reached self) (t : ℕ) (s old : List ℕ) (next : Memory) (new : List ℕ) (why : Refusal) → t < 30
-    → HearsLine self t s old next new (A.Refused why) → Refuses k.class t (refusal_of why) old next new
+    → HearsLine self t s old next new (Err why) → Refuses k.class t (refusal_of why) old next new
 unfolding hears_on
 hear_refused self k t s old next new why l p =
     record {
@@ -104,17 +103,17 @@ hear_refused self k t s old next new why l p =
     }
 
 -- a line of no tablet is 18, and nothing changes
-pub hear_over : (self : Memory) → Reached self → (t : ℕ) (s old : List ℕ) (next : Memory) (new : List ℕ) (r : Answer) → 30 ≤ t
-    → HearsLine self t s old next new r → (next ≡ self) × (new ≡ old) × (r ≡ A.Refused W.NoTablet)
+pub hear_over : (self : Memory) → Reached self → (t : ℕ) (s old : List ℕ) (next : Memory) (new : List ℕ) (r : Result ℕ Refusal) → 30 ≤ t
+    → HearsLine self t s old next new r → (next ≡ self) × (new ≡ old) × (r ≡ Err W.NoTablet)
 unfolding denied Reports R.lent refusal_of
 hear_over self k t s old next new r l p =
     let is = tablet_over width (length old) k.class t s (le-ltb t 30 l) in
-    let (buffer, answer) = meets_one (R.refused R.no_tablet) old new old r (A.Refused W.NoTablet) (rw is at (p.meets k)) (record { reports = refl; buffer = refl }) in
+    let (buffer, answer) = meets_one (R.refused R.no_tablet) old new old r (Err W.NoTablet) (rw is at (p.meets k)) (record { reports = refl; buffer = refl }) in
     (p.leaves k ∙ ap (λ (x : Reply). packed_class x.next) is ∙ sym k.is, buffer, answer)
 
 -- a refused take changes nothing
 pub take_refused : (self : Memory) → Reached self → (old : List ℕ) (next : Memory) (new : List ℕ) (whose : ℕ) (why : Refusal)
-    → TakesSet self old next new whose (A.Refused why) → (next ≡ self) × (new ≡ old)
+    → TakesSet self old next new whose (Err why) → (next ≡ self) × (new ≡ old)
 take_refused self k old next new whose why p =
     let stays = Paper.take_untouched (length old) k.class (refusal_of why) (reports_refused why _ (p.meets k).reports) in
     (p.leaves k ∙ ap packed_class stays ∙ sym k.is, refused_keeps _ old new why (p.meets k))
@@ -127,7 +126,7 @@ pub record Home (c : Class) (t : ℕ) (next : Memory) : Type 0 where
   pub others : (u : ℕ) → eqb u t ≡ false → reached.class.tablet u ≡ c.tablet u
 
 -- HOME: from every state a single line of its own leads a tablet to Idle
-pub hear_home : (self : Memory) (k : Reached self) (t : ℕ) (old : List ℕ) (next : Memory) (new : List ℕ) (r : Answer) → t < 30
+pub hear_home : (self : Memory) (k : Reached self) (t : ℕ) (old : List ℕ) (next : Memory) (new : List ℕ) (r : Result ℕ Refusal) → t < 30
     → HearsLine self t (way_home (k.class.tablet t).session) old next new r → Home k.class t next
 unfolding hears_on reply_to state_in at_rest
 hear_home self k t old next new r l p =

@@ -9,6 +9,7 @@ use lib.ListN.{length, take, get_or, set}
 use lib.Seq.{take_at, length-take-le}
 use lib.Dec.{eqb}
 use borrow.Author.Tests.{eq-eqb}
+use Rattle.std.specs.Prelude.{Result, Ok, Err}
 use Rattle.paper.specs.Form.{Form}
 use Rattle.paper.specs.Refusal as R
 use Rattle.paper.specs.Bench as P
@@ -22,14 +23,14 @@ use Rattle.paper.proofs.Count.{one_if, nobody_prints, served_again, reply_count}
 use Rattle.paper.proofs.Turn.{turn_passing}
 use Rattle.command.specs.View.{refusal_of}
 use Rattle.command.specs.Answer.{Reports, Meets}
-use Rattle.command.specs.declared.Answer.{Answer}
-use Rattle.command.specs.declared.Answer.TheVariants as A
 use Rattle.command.specs.declared.Refusal.{Refusal}
 use Rattle.command.specs.declared.Refusal.TheVariants as W
 use Rattle.session.specs.Memory.{packed_session, packed_shelf, number_of}
 use Rattle.session.specs.declared.state.Held.{Held}
 use Rattle.seats.specs.Numbers.{code_of}
-use Rattle.seats.specs.Seats.{numbers_of, seat_of}
+use Rattle.std.proofs.Common.{Some, None}
+use Rattle.std.proofs.Common as S
+use Rattle.seats.specs.Seats.{numbers_of, seat_of, option_of}
 use Rattle.seats.proofs.Gone.{rests_alike}
 use Rattle.seats.proofs.Others.{turn_printing}
 use Rattle.seats.proofs.Parted.{numbers_length}
@@ -46,42 +47,42 @@ use Rattle.tablets.proofs.Left.{counts_numbered, counts_length, counts_last, cou
 -- whose turn it is, by the tests of the code
 module _ (held : List ℕ) where
   -- nobody's
-  pub turn_none : get_or held 301 0 ≡ 0 → (k : Counts held) → 30 ≡ seat_of (turn k.class)
-  unfolding seat_of
-  turn_none e k = sym (ap seat_of (nobody_prints k.class (sym (counts_printers held k) ∙ e)))
+  pub turn_none : get_or held 301 0 ≡ 0 → (k : Counts held) → None ≡ option_of (turn k.class)
+  unfolding option_of
+  turn_none e k = sym (ap option_of (nobody_prints k.class (sym (counts_printers held k) ∙ e)))
 
   -- that of the only one that prints, who was served last
-  pub turn_again : get_or held 301 0 ≡ 1 → get_or held (get_or held 300 0 * 10) 0 ≡ 6 → (k : Counts held) → get_or held 300 0 ≡ seat_of (turn k.class)
-  unfolding seat_of
+  pub turn_again : get_or held 301 0 ≡ 1 → get_or held (get_or held 300 0 * 10) 0 ≡ 6 → (k : Counts held) → Some (get_or held 300 0) ≡ option_of (turn k.class)
+  unfolding option_of
   turn_again one e k =
       let last : get_or held 300 0 ≡ k.class.last = counts_last held k in
       let again : prints (k.class.tablet k.class.last).session ≡ true =
       sym (counts_prints held k k.class.last k.sane.last_below) ∙ eq-eqb _ 6 (ap (λ n. get_or held (n * 10) 0) (sym last) ∙ e) in
-      last ∙ sym (ap seat_of (served_again k.class (sym (counts_printers held k) ∙ one) k.sane.last_below again))
+      ap Some last ∙ sym (ap option_of (served_again k.class (sym (counts_printers held k) ∙ one) k.sane.last_below again))
 
   -- else the numbers are searched
   pub turn_asked : Counts held → (length (take 300 held) ≡ 300) × (get_or held 300 0 < 30)
   turn_asked k =
       (length-take-le 300 held (omega (arith, counts_length held k)), omega (arith, counts_last held k, k.sane.last_below))
 
-  pub turn_found : (r : ℕ) → ((h : ℕ → Held) → take 300 held ≡ numbers_of h → r ≡ seat_of (first_after (λ j. eqb (code_of (h j).mode).tag 6) 30 (get_or held 300 0)))
-      → (k : Counts held) → r ≡ seat_of (turn k.class)
+  pub turn_found : (r : S.Option ℕ) → ((h : ℕ → Held) → take 300 held ≡ numbers_of h → r ≡ option_of (first_after (λ j. eqb (code_of (h j).mode).tag 6) 30 (get_or held 300 0)))
+      → (k : Counts held) → r ≡ option_of (turn k.class)
   unfolding numbered packed_tablet
   turn_found r f k =
       f (λ j. (packed_tablet k.class.forms (k.class.tablet j)).held) (ap (take 300) (counts_numbered held k) ∙ take_at _ _ 300 (numbers_length _))
-      ∙ ap (λ last. seat_of (first_after (λ j. eqb (code_of (packed_tablet k.class.forms (k.class.tablet j)).held.mode).tag 6) 30 last)) (counts_last held k)
-      ∙ ap seat_of (turn_printing k.class (λ j. number_of (k.class.tablet j).form k.class.forms))
+      ∙ ap (λ last. option_of (first_after (λ j. eqb (code_of (packed_tablet k.class.forms (k.class.tablet j)).held.mode).tag 6) 30 last)) (counts_last held k)
+      ∙ ap option_of (turn_printing k.class (λ j. number_of (k.class.tablet j).form k.class.forms))
 
--- the number 30 tells that nobody was found, and any other who was
-found_none : (o : Option ℕ) → ((u : ℕ) → o ≡ some u → u < 30) → seat_of o ≡ 30 → o ≡ none
-unfolding seat_of
-found_none none b e = refl
-found_none (some u) b e = absurd (let l = b u refl in let here : u ≡ 30 = e in omega arith)
+-- what the code holds tells whether somebody was found, and who
+found_none : (o : Option ℕ) → None ≡ option_of o → o ≡ none
+unfolding option_of
+found_none none e = refl
+found_none (some u) e = cc
 
-found_some : (o : Option ℕ) (t : ℕ) → (t ≡ 30 → ⊥) → t ≡ seat_of o → o ≡ some t
-unfolding seat_of
-found_some none t n e = absurd (n e)
-found_some (some u) t n e = ap some (sym e)
+found_some : (o : Option ℕ) (t : ℕ) → Some t ≡ option_of o → o ≡ some t
+unfolding option_of
+found_some none t e = cc
+found_some (some u) t e = cc
 
 -- a tablet in a state knows the form that it holds, and who holds none lies in memory as with any form's number
 taken_packed : (fs : List Form) (form : List ℕ) (st : P.Session) → packed_session fs (number_of form fs) st ≡ packed_tablet fs (tablet_of st form)
@@ -114,38 +115,35 @@ unfolding packed_with laid_out reply
 served_with c t last o printing held = refl
 
 -- what the paper answers where a call refuses, and where it accepts
-pub reports_refused : (why : Refusal) (paper : R.Answer) → Reports (A.Refused why) paper → paper ≡ R.refused (refusal_of why)
+pub reports_refused : (why : Refusal) (paper : R.Answer) → Reports (Err why) paper → paper ≡ R.refused (refusal_of why)
 unfolding Reports
 reports_refused why (R.accepted bytes) h = absurd h
 reports_refused why (R.refused r) h = ap R.refused (sym h)
 
-accepts_last : (len : ℕ) (paper : R.Answer) (t last : ℕ) → Reports (A.Accepted len) paper → last_after paper t last ≡ t
+accepts_last : (len : ℕ) (paper : R.Answer) (t last : ℕ) → Reports (Ok len) paper → last_after paper t last ≡ t
 unfolding Reports last_after
 accepts_last len (R.accepted bytes) t last h = refl
 accepts_last len (R.refused r) t last h = absurd h
 
-module _ (self : Memory) (t : ℕ) (turned : (k : Counts self.held) → t ≡ seat_of (turn k.class)) where
-  turned_is : (k : Reached self) → t ≡ seat_of (turn k.class)
-  unfolding reached_counts
-  turned_is k = turned (reached_counts self k)
-
+module _ (self : Memory) where
   -- NOBODY: 16, and nothing changes
-  pub none_takes : (old : List ℕ) → t ≡ 30 → Reached self → TakesSet self old self old t (A.Refused W.NotPrinting)
-  unfolding take_next serve denied Reports R.lent refusal_of seat_of
-  none_takes old e k₀ =
+  pub none_takes : (old : List ℕ) → ((k : Counts self.held) → None ≡ option_of (turn k.class)) → Reached self → TakesSet self old self old 30 (Err W.NotPrinting)
+  unfolding take_next serve denied Reports R.lent refusal_of seat_of reached_counts
+  none_takes old turned k₀ =
       let is : (k : Reached self) → take_next (length old) k.class ≡ denied R.not_printing k.class =
-      λ k. ap (serve (length old) k.class) (found_none _ (λ u q. (turn_passing k.class u q).below) (sym (turned_is k) ∙ e)) in
+      λ k. ap (serve (length old) k.class) (found_none _ (turned (reached_counts self k))) in
       let leaves : (k : Reached self) → self ≡ packed_class (take_next (length old) k.class).next = λ k. k.is ∙ ap (λ (x : Reply). packed_class x.next) (sym (is k)) in
       record {
         reached = takes_on self k₀ self (length old) (leaves k₀);
         meets = λ k. rw (is k) (record { reports = refl; buffer = refl });
-        whose = λ k. e ∙ ap (λ (x : Reply). seat_of x.whose) (sym (is k));
+        whose = λ k. ap (λ (x : Reply). seat_of x.whose) (sym (is k));
         leaves = leaves;
       }
 
-  module _ (somebody : t ≡ 30 → ⊥) where
+  module _ (t : ℕ) (turned : (k : Counts self.held) → Some t ≡ option_of (turn k.class)) where
     turned_some : (k : Reached self) → turn k.class ≡ some t
-    turned_some k = found_some _ t somebody (turned_is k)
+    unfolding reached_counts
+    turned_some k = found_some _ t (turned (reached_counts self k))
 
     turned_below : (k : Reached self) → t < 30
     turned_below k = (turn_passing k.class t (turned_some k)).below
@@ -154,7 +152,7 @@ module _ (self : Memory) (t : ℕ) (turned : (k : Counts self.held) → t ≡ se
     pub turned_sits : Reached self → Sits self t
     turned_sits k = packed_sits self t k (turned_below k)
 
-    module _ (old : List ℕ) (mid : Memory) (new : List ℕ) (r : Answer) (h : SeatTakes self t old mid new r) where
+    module _ (old : List ℕ) (mid : Memory) (new : List ℕ) (r : Result ℕ Refusal) (h : SeatTakes self t old mid new r) where
       abbrev taken : Reached self → P.Outcome
       taken k = P.take_set (length old) (record { forms = k.class.forms; session = (k.class.tablet t).session })
 
@@ -179,7 +177,7 @@ module _ (self : Memory) (t : ℕ) (turned : (k : Counts self.held) → t ≡ se
           ∙ taken_laid k.class t (taken k) k.class.last (printers k.class) (take_forms (length old) k.class.forms (k.class.tablet t).session)
 
       -- REFUSED: nothing changes
-      pub refused_takes : (why : Refusal) → r ≡ A.Refused why → Reached self → TakesSet self old mid new t r
+      pub refused_takes : (why : Refusal) → r ≡ Err why → Reached self → TakesSet self old mid new t r
       unfolding packed_class last_after reply
       refused_takes why e k₀ =
           let answer : (k : Reached self) → (taken k).answer ≡ R.refused (refusal_of why) =
@@ -208,7 +206,7 @@ module _ (self : Memory) (t : ℕ) (turned : (k : Counts self.held) → t ≡ se
           ((ap length (moved_held k ∙ held_numbered _ _) ∙ numbered_length _ _ _, turned_below k), omega (arith, moved_printers k, printers_within k.class))
 
       -- ACCEPTED: the turn moves, and it is counted anew who prints
-      module _ (len : ℕ) (e : r ≡ A.Accepted len) (held : List ℕ)
+      module _ (len : ℕ) (e : r ≡ Ok len) (held : List ℕ)
           (q : held ≡ set (set mid.held 300 t) 301 (recounted (get_or (set mid.held 300 t) 301 0) 6 (get_or (set mid.held 300 t) (t * 10) 0))) where
         moved_next : (k : Reached self) → (take_next (length old) k.class).next ≡ (reply k.class t t none (taken k)).next
         moved_next k =

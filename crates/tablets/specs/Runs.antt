@@ -1,6 +1,6 @@
 -- Calls that were made of the code, one after the other: what went into each of them, what came out, and that each is as
 -- promised. And what the calls told of each tablet, as the paper's diary has it.
-use Rattle.std.specs.Prelude.{ℕ, ◌*◌, ◌≡◌, Bool, true, ◌&&◌, List, [], ◌∷◌, length, take, get_or, ltb, eqb}
+use Rattle.std.specs.Prelude.{ℕ, ◌*◌, ◌≡◌, Bool, true, ◌&&◌, List, [], ◌∷◌, length, take, get_or, ltb, eqb, Result, Ok, Err}
 use Rattle.paper.specs.Byte.{when◌then◌else◌}
 use Rattle.paper.specs.Line.{kept}
 use Rattle.paper.specs.Command.{file, recall}
@@ -11,8 +11,7 @@ use Rattle.paper.specs.Class.{Request, sends, fetches}
 use Rattle.paper.specs.Diary.{call_of, Entry, lines_in, sets_in}
 use Rattle.command.specs.View.{width, refusal_of}
 use Rattle.command.specs.Answer.{Meets}
-use Rattle.command.specs.declared.Answer.{Answer}
-use Rattle.command.specs.declared.Answer.TheVariants as A
+use Rattle.command.specs.declared.Refusal.{Refusal}
 use Rattle.call.specs.Call.{Memory}
 use Rattle.tablets.specs.Calls.{HearsLine, TakesSet}
 
@@ -29,10 +28,10 @@ pub record Made : Type 0 where
   pub new : List ℕ
   pub next : Memory
   pub whose : ℕ
-  pub answer : Answer
+  pub answer : Result ℕ Refusal
 
 -- what the code promises of a call of each kind: the promise that its contract names
-abbrev pub PromisedBy : (self : Memory) → Kind → (old : List ℕ) → (next : Memory) → (new : List ℕ) → (whose : ℕ) → Answer → Type 0
+abbrev pub PromisedBy : (self : Memory) → Kind → (old : List ℕ) → (next : Memory) → (new : List ℕ) → (whose : ℕ) → Result ℕ Refusal → Type 0
 PromisedBy self (hears t s) old next new whose r = (whose ≡ t) × HearsLine self t s old next new r
 PromisedBy self takes old next new whose r = TakesSet self old next new whose r
 
@@ -75,18 +74,18 @@ Report (a ∷ answers) [] = ⊥
 Report (a ∷ answers) (m ∷ ms) = Meets a m.old m.new m.answer × Report answers ms
 
 -- what a call told in the paper's words: the bytes that an answer counts at the front of the buffer, or the refusal
-unfoldable pub told_by : Answer → List ℕ → R.Answer
-told_by (A.Accepted len) buffer = R.accepted (take len buffer)
-told_by (A.Refused why) buffer = R.refused (refusal_of why)
+unfoldable pub told_by : Result ℕ Refusal → List ℕ → R.Answer
+told_by (Ok len) buffer = R.accepted (take len buffer)
+told_by (Err why) buffer = R.refused (refusal_of why)
 
 unfoldable pub told : Made → R.Answer
 told m = told_by m.answer m.new
 
 -- the tablet that an accepted take told, before those of later ones
-unfoldable pub served_on : Kind → Answer → (whose : ℕ) → List ℕ → List ℕ
+unfoldable pub served_on : Kind → Result ℕ Refusal → (whose : ℕ) → List ℕ → List ℕ
 served_on (hears t s) r whose later = later
-served_on takes (A.Accepted len) whose later = whose ∷ later
-served_on takes (A.Refused why) whose later = later
+served_on takes (Ok len) whose later = whose ∷ later
+served_on takes (Err why) whose later = later
 
 -- the tablets that the accepted takes among some calls told, in order
 unfoldable pub served : List Made → List ℕ

@@ -1,5 +1,5 @@
 // Numbers of thirty sessions: how many print, and how many sets are left to be taken.
-ghost use Rattle.std.specs.Prelude.{◌-◌, ◌*◌, ◌≤◌, ◌<◌, ◌≡◌, length, get_or, set};
+ghost use Rattle.std.specs.Prelude.{◌*◌, ◌≤◌, ◌<◌, ◌≡◌, length, get_or, set};
 ghost use Rattle.tablets.specs.Calls.{Counts, recounted, SetsLeft, AllLeft};
 
 use seats::numbers::{PRINTING, TABLETS, WIDTH};
@@ -15,16 +15,6 @@ const SETS: usize = 1;
 
 const OUT: usize = 3;
 
-// One less, and 0 below 0.
-fn fewer(n: usize) -> usize
-    ensures { result ≡ n - 1 }
-{
-    if n == 0 {
-        return 0;
-    }
-    n - 1
-}
-
 // Tablet t had a state of this tag, and has the one that stands there now.
 pub fn recount(held: &mut [usize], was: usize, t: usize)
     requires held_len { (length held.old ≡ 302) × (t < 30) }
@@ -38,7 +28,7 @@ pub fn recount(held: &mut [usize], was: usize, t: usize)
         return;
     }
     if was == PRINTING {
-        held[PRINTERS] = fewer(n);
+        held[PRINTERS] = n.saturating_sub(1);
         return;
     }
     if is == PRINTING {

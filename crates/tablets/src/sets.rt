@@ -1,7 +1,7 @@
 // Sets for the printer, which names no tablet.
 ghost use Rattle.std.specs.Prelude.{◌≡◌};
 ghost use Rattle.paper.specs.Class.{turn};
-ghost use Rattle.seats.specs.Seats.{seat_of};
+ghost use Rattle.seats.specs.Seats.{option_of};
 ghost use Rattle.call.specs.Call.{memory_of};
 ghost use Rattle.tablets.specs.Calls.{Reached, Counts, TakesSet};
 
@@ -12,28 +12,24 @@ use seats::numbers::{PRINTING, TABLETS, WIDTH};
 use seats::turns::turn_after;
 
 // The tablet whose set was asked for, 30 where nobody prints, and the answer.
+// Kept: a pair and no Result, since the tablet is told where the set is refused too (`TakesSet`).
 #[derive(Clone, Copy)]
 pub struct Served {
     pub tablet: usize,
     pub answer: Answer,
 }
 
-// Whose turn it is. The only one that prints is served again at once.
-fn turn_of(held: &[usize]) -> usize
+// Whose turn it is, if one prints. The only one that prints is served again at once.
+fn turn_of(held: &[usize]) -> Option<usize>
     requires { Counts held.now }
-    ensures { (k : Counts held.now) → result ≡ seat_of (turn k.class) }
+    ensures { (k : Counts held.now) → result ≡ option_of (turn k.class) }
 {
     let last = held[LAST];
-    let n = held[PRINTERS];
-    if n == 0 {
-        return TABLETS;
+    match held[PRINTERS] {
+        0 => None,
+        1 if held[last * WIDTH] == PRINTING => Some(last),
+        _ => turn_after(&held[..NUMBERS], last),
     }
-    if n == 1 {
-        if held[last * WIDTH] == PRINTING {
-            return last;
-        }
-    }
-    turn_after(&held[..NUMBERS], last)
 }
 
 // A set of the tablet whose turn it is, with a buffer for it. Only an accepted take moves the turn.
@@ -54,17 +50,16 @@ pub fn take(
     requires { Reached (memory_of all.now names.now texts.now lens.now plans.now filed.now name.old text.old answers.old values.old held.old) }
     ensures { TakesSet (memory_of all.now names.now texts.now lens.now plans.now filed.now name.old text.old answers.old values.old held.old) set.old (memory_of all.now names.now texts.now lens.now plans.now filed.now name.new text.new answers.new values.new held.new) set.new result.tablet result.answer }
 {
-    let t = turn_of(held);
-    if t == TABLETS {
-        let answer = Answer::Refused {
-            why: Refusal::NotPrinting,
+    let Some(t) = turn_of(held) else {
+        return Served {
+            tablet: TABLETS,
+            answer: Err(Refusal::NotPrinting),
         };
-        return Served { tablet: t, answer };
-    }
+    };
     let answer = take_seat(
         all, names, texts, lens, plans, filed, name, text, answers, values, held, t, set,
     );
-    let Answer::Accepted { len: _ } = answer else {
+    let Ok(_) = answer else {
         return Served { tablet: t, answer };
     };
     held[LAST] = t;

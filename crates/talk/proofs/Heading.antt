@@ -82,10 +82,12 @@ pub one_figure : (old : List ℕ) (at n : ℕ) (new : List ℕ) (r : ℕ) (why :
 one_figure old at n new r why h e w = rw (figures_one why h, ← e) w
 
 -- two
-pub two_figures : (old : List ℕ) (at : ℕ) (mid : List ℕ) (a line : ℕ) (new : List ℕ) (r : ℕ) (why : Refusal) → why ≡ W.Unsound line
-    → Writes old at (listed (9 ∷ [])) mid a → Writes mid a (listed (line ∷ [])) new r → Writes old at (listed (R.figures (refusal_of why))) new r
-unfolding refusal_of R.figures
-two_figures old at mid a line new r why e p q = rw e (listed_then old at 9 mid a _ new r p q)
+pub two_figures : (old : List ℕ) (at n : ℕ) (mid : List ℕ) (a line : ℕ) (new : List ℕ) (r : ℕ) (why : Refusal) → why ≡ W.Unsound line → n ≡ number_of (refusal_of why)
+    → Writes old at (listed (n ∷ [])) mid a → Writes mid a (listed (line ∷ [])) new r → Writes old at (listed (R.figures (refusal_of why))) new r
+unfolding refusal_of R.figures number_of first
+two_figures old at n mid a line new r why e h p q =
+    let nine : n ≡ 9 = rw e at h in
+    rw e (listed_then old at 9 mid a _ new r (rw nine at p) q)
 
 -- of a refused one
 pub no_told : (old : List ℕ) (at : ℕ) (b₁ : List ℕ) (n : ℕ) (b₂ : List ℕ) (o : ℕ) (b₃ : List ℕ) (end : ℕ) (new : List ℕ) (r : ℕ) (q : R.Refusal)

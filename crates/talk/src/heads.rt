@@ -6,11 +6,10 @@ ghost use Rattle.command.specs.View.{refusal_of};
 ghost use Rattle.text.specs.Write.{Writes};
 
 use command::Refusal;
-use command::refusals::number_of;
 use text::write::{put, put_decimal};
 
 // The byte that ends a line.
-const LF: u8 = 10;
+const LF: u8 = b'\n';
 
 // Room for any first line: two letters, three numbers of at most 20 digits with a space before each, and LF.
 pub const HEAD_ROOM: usize = 66;
@@ -54,11 +53,11 @@ fn put_figures(out: &mut [u8], at: usize, why: Refusal) -> usize
     ensures writes { Writes out.old at (listed (figures (refusal_of why))) out.new result }
     ensures upper_bound { result ≤ at + 42 }
 {
-    let Refusal::Unsound { line } = why else {
-        return put_spaced(out, at, number_of(why));
-    };
-    let next = put_spaced(out, at, 9);
-    put_spaced(out, next, line)
+    let next = put_spaced(out, at, usize::from(why));
+    match why {
+        Refusal::Unsound { line } => put_spaced(out, next, line),
+        _ => next,
+    }
 }
 
 // The first line of a refused call's record, which is all of it.

@@ -2,6 +2,7 @@
 -- over the line, past a backslash where one stands, takes one byte of the content.
 use mathlib.Core.Path.{◌≡◌, refl, sym, ◌∙◌, ap}
 use mathlib.Core.Bool.{Bool, true, false, ◌||◌}
+use mathlib.Core.Logic.{◌⊎◌, inl, inr}
 use mathlib.Core.List.{List, [], ◌∷◌, ◌++◌}
 use Prim.Native.Nat.{ℕ, suc, ◌+◌, ◌-◌, ◌≤◌, ◌<◌}
 use native.Mathlib.Omega.{arith}
@@ -40,20 +41,16 @@ escape_marked b = go (eqb b quote || eqb b backslash)
 pub escape_length : (b : ℕ) → length (escape (b ∷ [])) ≡ length (mark_of b) + 1
 escape_length b = rw (escape_marked b) (length-append (mark_of b) (b ∷ []))
 
--- a backslash goes before a quote
-pub mark_quote : (b : ℕ) → b ≡ 34 → mark_of b ≡ 92 ∷ []
+-- a backslash goes before a backslash or a quote
+pub mark_either : (b : ℕ) → (b ≡ 34) ⊎ (b ≡ 92) → mark_of b ≡ 92 ∷ []
 unfolding mark_of when◌then◌else◌
-mark_quote b e = rw e
-
--- and before a backslash
-pub mark_backslash : (b : ℕ) → b ≡ 92 → mark_of b ≡ 92 ∷ []
-unfolding mark_of when◌then◌else◌
-mark_backslash b e = rw e
+mark_either b (inl e) = rw e
+mark_either b (inr e) = rw e
 
 -- and nothing before any other byte
-pub mark_other : (b : ℕ) → (b ≡ 34 → ⊥) → (b ≡ 92 → ⊥) → mark_of b ≡ []
+mark_other : (b : ℕ) → ((b ≡ 34) ⊎ (b ≡ 92) → ⊥) → mark_of b ≡ []
 unfolding mark_of when◌then◌else◌
-mark_other b q k = rw (mark_of, ne_eqb b 34 q, ne_eqb b 92 k)
+mark_other b h = rw (mark_of, ne_eqb b 34 λ e. h (inl e), ne_eqb b 92 λ e. h (inr e))
 
 -- the code's answer at a backslash: the literal byte is the next
 pub literal_next : (s : List ℕ) (at : ℕ) → get_or s at 0 ≡ 92 → at + 1 ≡ literal s at
@@ -150,17 +147,13 @@ pub escape_past : (s : List ℕ) (i : ℕ) → length s ≤ i → escape (drop i
 unfolding escape
 escape_past s i h = rw (drop_of_length-le s {i = i} h)
 
--- the code's answers: before a quote a backslash
-pub put_quote : (old : List ℕ) (at : ℕ) (new : List ℕ) (next b : ℕ) → b ≡ 34 → Writes old at (92 ∷ []) new next → Writes old at (mark_of b) new next
-put_quote old at new next b e w = rw (mark_quote b e) w
-
--- before a backslash the same
-pub put_backslash : (old : List ℕ) (at : ℕ) (new : List ℕ) (next b : ℕ) → b ≡ 92 → Writes old at (92 ∷ []) new next → Writes old at (mark_of b) new next
-put_backslash old at new next b e w = rw (mark_backslash b e) w
+-- the code's answers: before a backslash or a quote a backslash
+pub put_either : (old : List ℕ) (at : ℕ) (new : List ℕ) (next b : ℕ) → (b ≡ 34) ⊎ (b ≡ 92) → Writes old at (92 ∷ []) new next → Writes old at (mark_of b) new next
+put_either old at new next b e w = rw (mark_either b e) w
 
 -- before any other byte nothing
-pub put_unmarked : (old : List ℕ) (at b : ℕ) → (b ≡ 34 → ⊥) → (b ≡ 92 → ⊥) → at + length (mark_of b) ≤ length old → Writes old at (mark_of b) old at
-put_unmarked old at b q k l = rw (mark_other b q k) (writes_none old at (omega (arith, ap length (mark_other b q k))))
+pub put_unmarked : (old : List ℕ) (at b : ℕ) → ((b ≡ 34) ⊎ (b ≡ 92) → ⊥) → at + length (mark_of b) ≤ length old → Writes old at (mark_of b) old at
+put_unmarked old at b h l = rw (mark_other b h) (writes_none old at (omega (arith, ap length (mark_other b h))))
 
 -- and behind it there is room for the byte
 pub marked_room : (old : List ℕ) (at : ℕ) (mid : List ℕ) (place b : ℕ) → at + length (escape (b ∷ [])) ≤ length old → Writes old at (mark_of b) mid place → place < length mid

@@ -3,25 +3,24 @@
 -- What is left behind a string is an end of the line, so that its length tells the place of the closing quote.
 use mathlib.Core.Path.{◌≡◌, refl, sym, ◌∙◌, ap}
 use mathlib.Core.Bool.{Bool, true, false, ◌||◌}
+use mathlib.Core.Logic.{◌⊎◌, inl, inr}
 use mathlib.Core.List.{List, [], ◌∷◌}
-use Prim.Native.Nat.{ℕ, suc, ◌+◌, ◌-◌, ◌≤◌, ◌<◌}
+use Prim.Native.Nat.{ℕ, suc, ◌+◌, ◌-◌, ◌≤◌, ◌<◌, max}
 use native.Mathlib.Nat.{zero-add, add-zero}
 use native.Mathlib.Omega.{arith}
 use native.Mathlib.Numerals.{add-one}
 use lib.ListN.{length, drop, get_or, length-drop, drop_of_length-le}
 use lib.Seq.{drop-cons, drop-drop}
 use lib.Dec.{eqb}
-use native.Mathlib.Decide.{ℕ_discrete}
+use native.Mathlib.Decide.{ℕ_discrete, dec_lt}
 use borrow.Author.Tests.{eqb-true, eq-eqb, ne_eqb}
 use Rattle.paper.specs.Byte.{when◌then◌else◌}
 use Rattle.paper.specs.Line.{Got, got, bad, followed, give, byte, quote, backslash, within, plain, escaped, string}
 use Rattle.text.proofs.Place.{stands, one_fails, one_passes}
 use Rattle.text.specs.Place.{byte_at, from, run, run_end, closing, quoted_at, content_of, text_at, Closes}
+use Rattle.std.specs.Prelude.{Option, Some, None}
 use Rattle.text.specs.declared.read.Closing.{Closing}
-use Rattle.text.specs.declared.read.Closing.TheVariants.{At, Open}
 use Rattle.text.specs.declared.read.Span.{Span}
-use Rattle.text.specs.declared.read.Quoted.{Quoted}
-use Rattle.text.specs.declared.read.Quoted.TheVariants.{Held, Missing}
 
 -- the plain mood's choice by its two tests, laid open
 plain_cons : (b : ℕ) (x : List ℕ) → plain (b ∷ x) ≡ elim (eqb b quote) as (λ _. Got (List ℕ)) [ true ↦ got [] x | false ↦ elim (eqb b backslash) as (λ _. Got (List ℕ)) [ true ↦ escaped x | false ↦ within b (plain x) ] ]
@@ -63,26 +62,35 @@ escaped_other s at h = rw (from_cons s at h)
 -- a byte of the content counts for one, wherever the string closes
 closing_within : (s : List ℕ) (len b : ℕ) (g : Got (List ℕ)) → closing s len (within b g) ≡ closing s (len + 1) g
 unfolding closing within followed give
-closing_within s len b (got c rest) = ap (At (length s - suc (length rest))) (omega arith)
+closing_within s len b (got c rest) = let count : len + suc (length c) ≡ len + 1 + length c = omega arith in rw count
 closing_within s len b bad = refl
 
--- the code's answer past the end: the run ends there
-pub run_past : (s : List ℕ) (i end : ℕ) → run_end s i ≡ end → length s ≤ i → i ≡ end
+-- past the end the run ends there
+run_past : (s : List ℕ) (i end : ℕ) → run_end s i ≡ end → length s ≤ i → i ≡ end
 unfolding run_end run from
 run_past s i end e h =
     let none : run (from s i) ≡ 0 = rw (drop_of_length-le s {i = i} h) in
     omega arith
 
+-- the code's answer where no byte stopped the run
+pub run_over : (s : List ℕ) (at i : ℕ) → run_end s i ≡ run_end s at → (at ≤ length s → i ≤ length s) → length s ≤ i → max at (length s) ≡ run_end s at
+run_over s at i e h l =
+    elim (dec_lt (length s) at) [
+      | yes k ↦ omega (arith, run_past s at _ refl (omega arith))
+      | no k ↦ omega (arith, run_past s i _ e l, h (omega arith))
+    ]
+
 -- at a quote or a backslash: the run ends
-pub run_stops : (s : List ℕ) (i end b : ℕ) → run_end s i ≡ end → i < length s → get_or s i 0 ≡ b → (eqb b quote || eqb b backslash) ≡ true → i ≡ end
+pub run_stops : (s : List ℕ) (i end : ℕ) → run_end s i ≡ end → i < length s → (get_or s i 0 ≡ 34) ⊎ (get_or s i 0 ≡ 92) → i ≡ end
 unfolding run_end run when◌then◌else◌
-run_stops s i end b e h q t = let none : run (from s i) ≡ 0 = rw (from_cons s i h, q, run, t) in omega arith
+run_stops s i end e h (inl q) = let none : run (from s i) ≡ 0 = rw (from_cons s i h, q) in omega arith
+run_stops s i end e h (inr q) = let none : run (from s i) ≡ 0 = rw (from_cons s i h, q) in omega arith
 
 -- at any other byte it goes on
-pub run_goes : (s : List ℕ) (i end : ℕ) → run_end s i ≡ end → i < length s → (get_or s i 0 ≡ 34 → ⊥) → (get_or s i 0 ≡ 92 → ⊥) → run_end s (i + 1) ≡ end
+pub run_goes : (s : List ℕ) (i end : ℕ) → run_end s i ≡ end → i < length s → ((get_or s i 0 ≡ 34) ⊎ (get_or s i 0 ≡ 92) → ⊥) → run_end s (i + 1) ≡ end
 unfolding run_end run when◌then◌else◌
-run_goes s i end e h q k =
-    let more : run (from s i) ≡ suc (run (from s (i + 1))) = rw (from_cons s i h, run, ne_eqb _ 34 q, ne_eqb _ 92 k) in
+run_goes s i end e h k =
+    let more : run (from s i) ≡ suc (run (from s (i + 1))) = rw (from_cons s i h, run, ne_eqb _ 34 λ q. k (inl q), ne_eqb _ 92 λ q. k (inr q)) in
     omega arith
 
 -- a run is content: a string closes where it closes behind the run, with so many bytes more
@@ -119,12 +127,12 @@ run_turns s at end e h q =
     eqb-true _ 92 (rw (ne_eqb _ 34 q) at (run_marked (from s at) _ _ here))
 
 -- the code's answer in the plain mood past the end: the string stays open
-pub plain_open : (s : List ℕ) (at len : ℕ) → length s ≤ at → Open ≡ closing s len (plain (from s at))
+pub plain_open : (s : List ℕ) (at len : ℕ) → length s ≤ at → None ≡ closing s len (plain (from s at))
 unfolding closing
 plain_open s at len h = rw (plain_none s at h)
 
 -- at a quote: the string closes here
-pub plain_shut : (s : List ℕ) (at len : ℕ) → at < length s → get_or s at 0 ≡ 34 → At at len ≡ closing s len (plain (from s at))
+pub plain_shut : (s : List ℕ) (at len : ℕ) → at < length s → get_or s at 0 ≡ 34 → Some (record { end = at; len = len }) ≡ closing s len (plain (from s at))
 unfolding closing from
 plain_shut s at len h e =
     let end : length s - suc (length (from s (at + 1))) ≡ at = rw (length-drop) (omega arith) in
@@ -132,23 +140,23 @@ plain_shut s at len h e =
     rw (plain_quote s at h e, end, none)
 
 -- at a backslash: what the other mood answers from the next place on
-pub plain_turns : (s : List ℕ) (at len : ℕ) (r : Closing) → at < length s → get_or s at 0 ≡ 92 → r ≡ closing s len (escaped (from s (at + 1))) → r ≡ closing s len (plain (from s at))
+pub plain_turns : (s : List ℕ) (at len : ℕ) (r : Option Closing) → at < length s → get_or s at 0 ≡ 92 → r ≡ closing s len (escaped (from s (at + 1))) → r ≡ closing s len (plain (from s at))
 plain_turns s at len r h e p = rw (plain_backslash s at h e) p
 
 -- behind a run of other bytes: what the plain mood answers from the run's end on, with its bytes counted
-pub plain_run : (s : List ℕ) (at len end : ℕ) (r : Closing) → end ≡ run_end s at → r ≡ closing s (len + (end - at)) (plain (from s end)) → r ≡ closing s len (plain (from s at))
+pub plain_run : (s : List ℕ) (at len end : ℕ) (r : Option Closing) → end ≡ run_end s at → r ≡ closing s (len + (end - at)) (plain (from s end)) → r ≡ closing s len (plain (from s at))
 unfolding run_end from
 plain_run s at len end r e p =
     let size : end - at ≡ run (from s at) = omega arith in
     p ∙ rw (size, e, ← drop-drop) (sym (run_content s len (from s at)))
 
 -- the code's answer behind a backslash past the end: the string stays open
-pub escaped_open : (s : List ℕ) (at len : ℕ) → length s ≤ at → Open ≡ closing s len (escaped (from s at))
+pub escaped_open : (s : List ℕ) (at len : ℕ) → length s ≤ at → None ≡ closing s len (escaped (from s at))
 unfolding closing
 escaped_open s at len h = rw (escaped_none s at h)
 
 -- at any byte: what the plain mood answers from the next place on, with one byte more
-pub escaped_goes : (s : List ℕ) (at len : ℕ) (r : Closing) → at < length s → r ≡ closing s (len + 1) (plain (from s (at + 1))) → r ≡ closing s len (escaped (from s at))
+pub escaped_goes : (s : List ℕ) (at len : ℕ) (r : Option Closing) → at < length s → r ≡ closing s (len + 1) (plain (from s (at + 1))) → r ≡ closing s len (escaped (from s at))
 escaped_goes s at len r h p = rw (escaped_other s at h, closing_within) p
 
 -- what was read of some bytes, its content and what is left: an end of them, shorter by the content and the closing quote
@@ -212,16 +220,17 @@ end_place s start c rest e =
     e.tail ∙ drop-drop (length (drop start s) - length rest) start s ∙ rw place
 
 -- a string that the plain mood closes: its closing quote is in the line, and the length told is its content's
-pub closing_at : (s : List ℕ) (start end len : ℕ) (r : Closing) → r ≡ closing s 0 (plain (from s start)) → r ≡ At end len → Closes s start end × (len ≡ length (text_at s start))
+pub closing_at : (s : List ℕ) (start end len : ℕ) (r : Option Closing) → r ≡ closing s 0 (plain (from s start)) → r ≡ Some (record { end = end; len = len }) → Closes s start end × (len ≡ length (text_at s start))
 unfolding closing text_at content_of
 closing_at s start end len r p e = go (plain (from s start)) refl (sym e ∙ p)
   where
-    go : (g : Got (List ℕ)) → plain (from s start) ≡ g → At end len ≡ closing s 0 g → Closes s start end × (len ≡ length (text_at s start))
+    go : (g : Got (List ℕ)) → plain (from s start) ≡ g → Some (record { end = end; len = len }) ≡ closing s 0 g → Closes s start end × (len ≡ length (text_at s start))
     go (got c rest) q h =
         let ends : Ends (from s start) c rest = (leaves (from s start)).0 c rest q in
         let size : length (from s start) ≡ length s - start = length_from s start in
-        let told : end ≡ length s - suc (length rest) = cc in
-        let counted : len ≡ 0 + length c = cc in
+        let is : ◌≡◌ {A = Closing} (record { end = end; len = len }) (record { end = length s - suc (length rest); len = 0 + length c }) = cc in
+        let told : end ≡ length s - suc (length rest) = ap (λ (x : Closing). x.end) is in
+        let counted : len ≡ 0 + length c = ap (λ (x : Closing). x.len) is in
         let content : text_at s start ≡ c = ap content_of q in (
           record {
             closes = q ∙ rw (content, told, ← end_place s start c rest ends);
@@ -232,11 +241,11 @@ closing_at s start end len r p e = go (plain (from s start)) refl (sym e ∙ p)
     go bad q h = let z : ◌≡◌ {A = ℕ} 0 1 = cc in absurd (omega arith)
 
 -- a string that the plain mood leaves open is none
-pub closing_open : (s : List ℕ) (start len : ℕ) (r : Closing) → r ≡ closing s len (plain (from s start)) → r ≡ Open → plain (from s start) ≡ bad
+pub closing_open : (s : List ℕ) (start len : ℕ) (r : Option Closing) → r ≡ closing s len (plain (from s start)) → r ≡ None → plain (from s start) ≡ bad
 unfolding closing
 closing_open s start len r p e = go (plain (from s start)) (sym e ∙ p)
   where
-    go : (g : Got (List ℕ)) → Open ≡ closing s len g → g ≡ bad
+    go : (g : Got (List ℕ)) → None ≡ closing s len g → g ≡ bad
     go (got c rest) h = let z : ◌≡◌ {A = ℕ} 0 1 = cc in absurd (omega arith)
     go bad h = refl
 
@@ -252,24 +261,25 @@ unfolding string byte followed
 string_lacks s at b e h = rw (one_fails (λ c. eqb c 34) s at (ne_eqb (byte_at s at) 34 λ q. h (e ∙ q)))
 
 -- the code's answer where no quote stands: no string
-pub string_none : (s : List ℕ) (at b : ℕ) → b ≡ byte_at s at → (b ≡ 34 → ⊥) → Missing ≡ quoted_at s at (string (from s at))
+pub string_none : (s : List ℕ) (at b : ℕ) → b ≡ byte_at s at → (b ≡ 34 → ⊥) → None ≡ quoted_at s at (string (from s at))
 unfolding quoted_at
 string_none s at b e h = rw (string_lacks s at b e h)
 
 -- where the string stays open: none either
-pub string_open : (s : List ℕ) (at b : ℕ) (r : Closing) → b ≡ byte_at s at → b ≡ 34 → r ≡ closing s 0 (plain (from s (at + 1))) → r ≡ Open → Missing ≡ quoted_at s at (string (from s at))
+pub string_open : (s : List ℕ) (at b : ℕ) (r : Option Closing) → b ≡ byte_at s at → b ≡ 34 → r ≡ closing s 0 (plain (from s (at + 1))) → r ≡ None → None ≡ quoted_at s at (string (from s at))
 unfolding quoted_at
 string_open s at b r e h p q = rw (string_opens s at b e h, closing_open s (at + 1) 0 r p q)
 
 -- where it closes: its span
-pub string_closes : (s : List ℕ) (at b end len : ℕ) (r : Closing) → b ≡ byte_at s at → b ≡ 34 → r ≡ closing s 0 (plain (from s (at + 1))) → r ≡ At end len → Held (record { start = at + 1; end = end; len = len }) ≡ quoted_at s at (string (from s at))
+pub string_closes : (s : List ℕ) (at b end len : ℕ) (r : Option Closing) → b ≡ byte_at s at → b ≡ 34 → r ≡ closing s 0 (plain (from s (at + 1))) → r ≡ Some (record { end = end; len = len }) → Some (record { start = at + 1; end = end; len = len }) ≡ quoted_at s at (string (from s at))
 unfolding quoted_at closing
 string_closes s at b end len r e h p q = rw (string_opens s at b e h) (go (plain (from s (at + 1))) (sym q ∙ p))
   where
-    go : (g : Got (List ℕ)) → At end len ≡ closing s 0 g → Held (record { start = at + 1; end = end; len = len }) ≡ quoted_at s at g
+    go : (g : Got (List ℕ)) → Some (record { end = end; len = len }) ≡ closing s 0 g → Some (record { start = at + 1; end = end; len = len }) ≡ quoted_at s at g
     go (got c rest) t =
-        let told : end ≡ length s - suc (length rest) = cc in
-        let counted : len ≡ 0 + length c = cc in
+        let is : ◌≡◌ {A = Closing} (record { end = end; len = len }) (record { end = length s - suc (length rest); len = 0 + length c }) = cc in
+        let told : end ≡ length s - suc (length rest) = ap (λ (x : Closing). x.end) is in
+        let counted : len ≡ 0 + length c = ap (λ (x : Closing). x.len) is in
         let count : len ≡ length c = omega arith in
         rw (told, count)
     go bad t = let z : ◌≡◌ {A = ℕ} 0 1 = cc in absurd (omega arith)
@@ -289,11 +299,11 @@ string_plain s at c rest e = elim (ℕ_discrete (byte_at s at) 34) [ yes h ↦ s
     never q = let z : ◌≡◌ {A = ℕ} 0 1 = cc in omega arith
 
 -- what a span that `string_at` answers tells its callers
-pub string_held : (s : List ℕ) (at : ℕ) (r : Quoted) (span : Span) → r ≡ quoted_at s at (string (from s at)) → r ≡ Held span → Stands s at span
+pub string_held : (s : List ℕ) (at : ℕ) (r : Option Span) (span : Span) → r ≡ quoted_at s at (string (from s at)) → r ≡ Some span → Stands s at span
 unfolding quoted_at closing
 string_held s at r span p e = go (string (from s at)) refl (sym e ∙ p)
   where
-    go : (g : Got (List ℕ)) → string (from s at) ≡ g → Held span ≡ quoted_at s at g → Stands s at span
+    go : (g : Got (List ℕ)) → string (from s at) ≡ g → Some span ≡ quoted_at s at g → Stands s at span
     go (got c rest) q h =
         let is : span ≡ record { start = at + 1; end = length s - suc (length rest); len = length c } = cc in
         let starts : span.start ≡ at + 1 = ap (λ (x : Span). x.start) is in
@@ -303,10 +313,10 @@ string_held s at r span p e = go (string (from s at)) refl (sym e ∙ p)
     go bad q h = let z : ◌≡◌ {A = ℕ} 0 1 = cc in absurd (omega arith)
 
 -- and what it tells them where it answers none
-pub string_missing : (s : List ℕ) (at : ℕ) (r : Quoted) → r ≡ quoted_at s at (string (from s at)) → r ≡ Missing → string (from s at) ≡ bad
+pub string_missing : (s : List ℕ) (at : ℕ) (r : Option Span) → r ≡ quoted_at s at (string (from s at)) → r ≡ None → string (from s at) ≡ bad
 unfolding quoted_at
 string_missing s at r p e = go (string (from s at)) (sym e ∙ p)
   where
-    go : (g : Got (List ℕ)) → Missing ≡ quoted_at s at g → g ≡ bad
+    go : (g : Got (List ℕ)) → None ≡ quoted_at s at g → g ≡ bad
     go (got c rest) h = let z : ◌≡◌ {A = ℕ} 0 1 = cc in absurd (omega arith)
     go bad h = refl

@@ -2,8 +2,9 @@
 -- Everything about a write follows from its front, which the bytes join, and its back, which stays as it was.
 use mathlib.Core.Path.{◌≡◌, refl, sym, ◌∙◌, ap}
 use mathlib.Core.List.{List, [], ◌∷◌, ◌++◌, append_assoc, append-nil}
-use Prim.Native.Nat.{ℕ, ◌+◌, ◌≤◌, ◌<◌, ◌/◌, ◌%◌}
+use Prim.Native.Nat.{ℕ, ◌+◌, ◌-◌, ◌≤◌, ◌<◌, ◌/◌, ◌%◌}
 use native.Mathlib.Omega.{arith}
+use borrow.Rule.Slice.PartMut.{put_mid}
 use native.Mathlib.Numerals.{add-one}
 use lib.ListN.{length, take, drop, get_or, set, drop_of_length-le, length-append, length-take, length-drop, take-append-drop}
 use lib.Seq.{drop-cons, length-take-le, take_at, drop_at, drop-drop, set_split, append_snoc}
@@ -129,6 +130,13 @@ digits_one n h = rw (decimal_small n h)
 -- and one from 10 on has one more than its tens
 pub digits_more : (n : ℕ) → 10 ≤ n → length (decimal n) ≡ length (decimal (n / 10)) + 1
 digits_more n h = rw (decimal_big n h) (length-append (decimal (n / 10)) ((48 + n % 10) ∷ []))
+
+-- bytes copied at once: a slice of the buffer as long as they are becomes them
+pub copy_written : (old : List ℕ) (at : ℕ) (s new : List ℕ) → at + length s ≤ length old → new ≡ s → Writes old at s (put_mid at (at + length s - at) old new) (at + length s)
+unfolding written
+copy_written old at s new h e =
+    let size : at + length s - at ≡ length s = omega arith in
+    record { ends = refl; room = h; is = rw (size, e, drop-drop (length s) at old, append_assoc) }
 
 -- bytes copied one by one: before the first
 pub copy_begins : (old : List ℕ) (at : ℕ) (s : List ℕ) → at + length s ≤ length old → Writing old at s (drop 0 s) old (at + 0)

@@ -1,13 +1,10 @@
 -- Places in a line, and the leaf readers: what each answers is the paper's reader on the bytes from a place on.
-use Rattle.std.specs.Prelude.{ℕ, suc, ◌+◌, ◌-◌, ◌≤◌, ◌<◌, ◌≡◌, ◌||◌, List, [], ◌∷◌, length, drop, get_or, eqb}
+use Rattle.std.specs.Prelude.{ℕ, suc, ◌+◌, ◌-◌, ◌≤◌, ◌<◌, ◌≡◌, ◌||◌, List, [], ◌∷◌, length, drop, get_or, eqb, Option, Some, None}
 use Rattle.paper.specs.Byte.{when◌then◌else◌}
 use Rattle.paper.specs.Line.{Got, got, bad, followed, comma, give, plain, quote, backslash}
-use Rattle.text.specs.declared.read.Number.{Number}
-use Rattle.text.specs.declared.read.Number.TheVariants.{Value, Bad}
+use Rattle.text.specs.declared.read.Parsed.{Parsed}
 use Rattle.text.specs.declared.read.Closing.{Closing}
-use Rattle.text.specs.declared.read.Closing.TheVariants.{At, Open}
-use Rattle.text.specs.declared.read.Quoted.{Quoted}
-use Rattle.text.specs.declared.read.Quoted.TheVariants.{Held, Missing}
+use Rattle.text.specs.declared.read.Span.{Span}
 
 -- the byte at a place, 0 past the end
 unfoldable pub byte_at : List ℕ → ℕ → ℕ
@@ -17,18 +14,22 @@ byte_at s at = get_or s at 0
 unfoldable pub from : List ℕ → ℕ → List ℕ
 from s at = drop at s
 
--- an answer in the paper's words: the value, and the bytes from the next place on
-unfoldable pub said : List ℕ → Number → Got ℕ
-said s (Value n next) = got n (from s next)
-said s Bad = bad
+-- an answer in the paper's words: what the value stands for, and the bytes from the next place on
+unfoldable pub said_by : {A B : Type 0} → (A → B) → List ℕ → Option (Parsed A) → Got B
+said_by f s (Some p) = got (f p.value) (from s p.next)
+said_by f s None = bad
+
+-- the same of a number, which stands for itself
+unfoldable pub said : List ℕ → Option (Parsed ℕ) → Got ℕ
+said = said_by (λ n. n)
 
 -- the place behind what was read
-unfoldable pub place_after : Number → ℕ
-place_after (Value n next) = next
-place_after Bad = 0
+unfoldable pub place_after : {A : Type 0} → Option (Parsed A) → ℕ
+place_after (Some p) = p.next
+place_after None = 0
 
 -- an answer that says what a reader of the paper gives, with its next place in the line
-pub record Says (s : List ℕ) (g : Got ℕ) (r : Number) : Type 0 where
+pub record Says (s : List ℕ) (g : Got ℕ) (r : Option (Parsed ℕ)) : Type 0 where
   pub says : said s r ≡ g
   pub inside : place_after r ≤ length s
 
@@ -46,14 +47,14 @@ unfoldable pub run_end : List ℕ → ℕ → ℕ
 run_end s at = at + run (from s at)
 
 -- where a string that is being read closes, and how many bytes it has then, with `len` of them read before
-unfoldable pub closing : List ℕ → ℕ → Got (List ℕ) → Closing
-closing s len (got c rest) = At (length s - suc (length rest)) (len + length c)
-closing s len bad = Open
+unfoldable pub closing : List ℕ → ℕ → Got (List ℕ) → Option Closing
+closing s len (got c rest) = Some (record { end = length s - suc (length rest); len = len + length c })
+closing s len bad = None
 
 -- a string that starts with a quote at a place: its content from the next place up to the closing quote, and its length
-unfoldable pub quoted_at : List ℕ → ℕ → Got (List ℕ) → Quoted
-quoted_at s at (got c rest) = Held (record { start = at + 1; end = length s - suc (length rest); len = length c })
-quoted_at s at bad = Missing
+unfoldable pub quoted_at : List ℕ → ℕ → Got (List ℕ) → Option Span
+quoted_at s at (got c rest) = Some (record { start = at + 1; end = length s - suc (length rest); len = length c })
+quoted_at s at bad = None
 
 -- the content that a paper's string has
 unfoldable pub content_of : Got (List ℕ) → List ℕ

@@ -15,203 +15,168 @@ pub fn byte_at(s: &[u8], at: usize) -> u8
     0
 }
 
-// A value that was read and the place behind it, or that none stands there.
-#[derive(Clone, Copy)]
-pub enum Number {
-    Value { n: usize, next: usize },
-    Bad,
+// What was read, and the place behind it.
+#[derive(Clone, Copy, Debug, PartialEq, Eq)]
+pub struct Parsed<T> {
+    pub value: T,
+    pub next: usize,
 }
 
 // One digit.
-pub fn digit_at(s: &[u8], at: usize) -> Number
+pub fn digit_at(s: &[u8], at: usize) -> Option<Parsed<usize>>
     ensures { Says s.now (digit (from s.now at)) result }
 {
     let b = byte_at(s, at);
-    if b < 48 {
-        return Number::Bad;
+    if !b.is_ascii_digit() {
+        return None;
     }
-    if 57 < b {
-        return Number::Bad;
-    }
-    Number::Value {
-        n: (b - 48) as usize,
+    Some(Parsed {
+        value: (b - b'0') as usize,
         next: at + 1,
-    }
+    })
 }
 
 // Two digits.
-pub fn two_digits_at(s: &[u8], at: usize) -> Number
+pub fn two_digits_at(s: &[u8], at: usize) -> Option<Parsed<usize>>
     ensures { Says s.now (two_digits (from s.now at)) result }
 {
-    let Number::Value {
-        n: tens,
-        next: second,
-    } = digit_at(s, at)
-    else {
-        return Number::Bad;
-    };
-    let Number::Value { n: ones, next } = digit_at(s, second) else {
-        return Number::Bad;
-    };
-    Number::Value {
-        n: tens * 10 + ones,
-        next,
-    }
+    let tens = digit_at(s, at)?;
+    let ones = digit_at(s, tens.next)?;
+    Some(Parsed {
+        value: tens.value * 10 + ones.value,
+        next: ones.next,
+    })
 }
 
-// At most `more` digits behind the value so far.
-fn more_digits(s: &[u8], at: usize, value: usize, more: usize) -> Number
-    requires { (value < 10) × (more < 5) × (at ≤ length s.now) }
-    ensures { Says s.now (more_digits more value (from s.now at)) result }
+// At most `more` digits behind the first.
+fn more_digits(s: &[u8], first: Parsed<usize>, more: usize) -> Parsed<usize>
+    requires { (first.value < 10) × (more < 5) × (first.next ≤ length s.now) }
+    ensures { Says s.now (more_digits more first.value (from s.now first.next)) (Some result) }
 {
-    let mut n = value;
-    let mut next = at;
-    let mut left = more;
-    while 0 < left {
-        let Number::Value { n: d, next: after } = digit_at(s, next) else {
-            return Number::Value { n, next };
+    let mut number = first;
+    for _ in 0..more {
+        let Some(digit) = digit_at(s, number.next) else {
+            return number;
         };
-        n = n * 10 + d;
-        next = after;
-        left -= 1;
+        number = Parsed {
+            value: number.value * 10 + digit.value,
+            next: digit.next,
+        };
     }
-    Number::Value { n, next }
+    number
 }
 
 // A number: 1 to 5 digits.
-pub fn number_at(s: &[u8], at: usize) -> Number
+pub fn number_at(s: &[u8], at: usize) -> Option<Parsed<usize>>
     ensures { Says s.now (number (from s.now at)) result }
 {
-    let Number::Value { n, next } = digit_at(s, at) else {
-        return Number::Bad;
-    };
-    more_digits(s, next, n, 4)
+    let digit = digit_at(s, at)?;
+    Some(more_digits(s, digit, 4))
 }
 
 // A letter parameter: one byte A to Z.
-pub fn letter_at(s: &[u8], at: usize) -> Number
+pub fn letter_at(s: &[u8], at: usize) -> Option<Parsed<usize>>
     ensures { Says s.now (letter (from s.now at)) result }
 {
     let b = byte_at(s, at);
-    if b < 65 {
-        return Number::Bad;
+    if !b.is_ascii_uppercase() {
+        return None;
     }
-    if 90 < b {
-        return Number::Bad;
-    }
-    Number::Value {
-        n: b as usize,
+    Some(Parsed {
+        value: b as usize,
         next: at + 1,
-    }
+    })
 }
 
 // A font: a number, or a letter, which reads as no font at all.
-pub fn font_at(s: &[u8], at: usize) -> Number
+pub fn font_at(s: &[u8], at: usize) -> Option<Parsed<usize>>
     ensures { Says s.now (font (from s.now at)) result }
 {
-    let Number::Value { n, next } = number_at(s, at) else {
-        let Number::Value { n: _, next } = letter_at(s, at) else {
-            return Number::Bad;
-        };
-        return Number::Value { n: 0, next };
-    };
-    Number::Value { n, next }
+    if let Some(number) = number_at(s, at) {
+        return Some(number);
+    }
+    let letter = letter_at(s, at)?;
+    Some(Parsed { value: 0, ..letter })
 }
 
 // A part that was read, with the comma behind it.
-pub fn comma_after(s: &[u8], part: Number) -> Number
+pub fn comma_after(s: &[u8], part: Option<Parsed<usize>>) -> Option<Parsed<usize>>
     ensures { Says s.now (with_comma (said s.now part)) result }
 {
-    let Number::Value { n, next } = part else {
-        return Number::Bad;
-    };
-    if byte_at(s, next) == 44 {
-        return Number::Value { n, next: next + 1 };
+    let part = part?;
+    if byte_at(s, part.next) != b',' {
+        return None;
     }
-    Number::Bad
+    Some(Parsed {
+        next: part.next + 1,
+        ..part
+    })
 }
 
-// Where a string closes: its closing quote and the bytes it holds, or that it stays open.
-#[derive(Clone, Copy)]
-pub enum Closing {
-    At { end: usize, len: usize },
-    Open,
+// Where a string closes: its closing quote and the bytes it holds.
+#[derive(Clone, Copy, Debug, PartialEq, Eq)]
+pub struct Closing {
+    pub end: usize,
+    pub len: usize,
 }
 
 // The place of the first quote or backslash from a place on, or else the end; past the end the place itself.
 fn run_end(s: &[u8], at: usize) -> usize
     ensures { result ≡ run_end s.now at }
 {
-    let mut i = at;
-    while i < s.len() {
-        let b = s[i];
-        if b == b'"' {
+    for i in at..s.len() {
+        if matches!(s[i], b'"' | b'\\') {
             return i;
         }
-        if b == b'\\' {
-            return i;
-        }
-        i += 1;
     }
-    i
+    at.max(s.len())
 }
 
-// The rest of a string in the plain mood, with `len` bytes of it read before.
+// The rest of a string in the plain mood, with `len` bytes of it read before, or that it stays open.
 #[cycle(escaped_at_plain_at)]
-pub fn plain_at(s: &[u8], at: usize, len: usize) -> Closing
+pub fn plain_at(s: &[u8], at: usize, len: usize) -> Option<Closing>
     requires { len ≤ at }
     ensures { result ≡ closing s.now len (plain (from s.now at)) }
 {
     let end = run_end(s, at);
     if s.len() <= end {
-        return Closing::Open;
+        return None;
     }
     let more = len + (end - at);
     if s[end] == b'"' {
-        return Closing::At { end, len: more };
+        return Some(Closing { end, len: more });
     }
     escaped_at(s, end + 1, more)
 }
 
 // The rest of a string just after a backslash, where the next byte is taken as it is.
 #[cycle(escaped_at_plain_at)]
-fn escaped_at(s: &[u8], at: usize, len: usize) -> Closing
+fn escaped_at(s: &[u8], at: usize, len: usize) -> Option<Closing>
     requires { len ≤ at }
     ensures { result ≡ closing s.now len (escaped (from s.now at)) }
 {
     if s.len() <= at {
-        return Closing::Open;
+        return None;
     }
     plain_at(s, at + 1, len + 1)
 }
 
 // Where a string's content lies, from its first byte up to its closing quote, and its length after unescaping.
-#[derive(Clone, Copy)]
+#[derive(Clone, Copy, Debug, PartialEq, Eq)]
 pub struct Span {
     pub start: usize,
     pub end: usize,
     pub len: usize,
 }
 
-// A string that stands at a place, by its span, or that none stands there.
-#[derive(Clone, Copy)]
-pub enum Quoted {
-    Held { span: Span },
-    Missing,
-}
-
-// A string between quotes.
-pub fn string_at(s: &[u8], at: usize) -> Quoted
+// A string between quotes, by its span.
+pub fn string_at(s: &[u8], at: usize) -> Option<Span>
     ensures { result ≡ quoted_at s.now at (string (from s.now at)) }
 {
-    if byte_at(s, at) == 34 {
-        let Closing::At { end, len } = plain_at(s, at + 1, 0) else {
-            return Quoted::Missing;
-        };
-        let start = at + 1;
-        return Quoted::Held {
-            span: Span { start, end, len },
-        };
+    if byte_at(s, at) != b'"' {
+        return None;
     }
-    Quoted::Missing
+    let start = at + 1;
+    let Closing { end, len } = plain_at(s, start, 0)?;
+    Some(Span { start, end, len })
 }

@@ -31,7 +31,7 @@ pub fn put_decimal(buf: &mut [u8], at: usize, n: usize) -> usize
     ensures { Writes buf.old at (decimal n) buf.new result }
 {
     if n < 10 {
-        return put(buf, at, 48 + (n % 10) as u8);
+        return put(buf, at, b'0' + (n % 10) as u8);
     }
     put_tens(buf, at, n)
 }
@@ -53,8 +53,8 @@ pub fn put_two(buf: &mut [u8], at: usize, n: usize) -> usize
     requires { (n < 100) × (at + 2 ≤ length buf.old) }
     ensures { Writes buf.old at (two n) buf.new result }
 {
-    let next = put(buf, at, 48 + (n / 10 % 10) as u8);
-    put(buf, next, 48 + (n % 10) as u8)
+    let next = put(buf, at, b'0' + (n / 10 % 10) as u8);
+    put(buf, next, b'0' + (n % 10) as u8)
 }
 
 // Bytes as they are.
@@ -62,12 +62,9 @@ pub fn put_all(buf: &mut [u8], at: usize, s: &[u8]) -> usize
     requires { at + length s.now ≤ length buf.old }
     ensures { Writes buf.old at s.now buf.new result }
 {
-    let mut i = 0;
-    while i < s.len() {
-        buf[at + i] = s[i];
-        i += 1;
-    }
-    at + i
+    let end = at + s.len();
+    buf[at..end].copy_from_slice(s);
+    end
 }
 
 // What goes before a byte of a string in normal form: a backslash where it is a quote or a backslash.
@@ -75,13 +72,10 @@ fn put_mark(buf: &mut [u8], at: usize, b: u8) -> usize
     requires { at + length (mark_of b) ≤ length buf.old }
     ensures { Writes buf.old at (mark_of b) buf.new result }
 {
-    if b == b'"' {
-        return put(buf, at, b'\\');
+    match b {
+        b'\\' | b'"' => put(buf, at, b'\\'),
+        _ => at,
     }
-    if b == b'\\' {
-        return put(buf, at, b'\\');
-    }
-    at
 }
 
 // One byte of a string in normal form.
@@ -99,10 +93,8 @@ pub fn put_escaped(buf: &mut [u8], at: usize, s: &[u8]) -> usize
     ensures { Writes buf.old at (escape s.now) buf.new result }
 {
     let mut next = at;
-    let mut i = 0;
-    while i < s.len() {
-        next = put_escaped_byte(buf, next, s[i]);
-        i += 1;
+    for &b in s {
+        next = put_escaped_byte(buf, next, b);
     }
     next
 }
@@ -112,7 +104,7 @@ pub fn literal_at(s: &[u8], at: usize) -> usize
     requires { at < length s.now }
     ensures { result ≡ literal s.now at }
 {
-    if s[at] == 92 {
+    if s[at] == b'\\' {
         return at + 1;
     }
     at
@@ -126,6 +118,7 @@ pub fn put_content(buf: &mut [u8], at: usize, s: &[u8], start: usize, end: usize
     ensures { Writes buf.old at (escape (text_at s.now start)) buf.new result }
 {
     let mut next = at;
+    // Kept: a step goes over one byte or two, which no iterator over the bytes does, so the place is counted by hand.
     let mut i = start;
     while i < end {
         let literal = literal_at(s, i);

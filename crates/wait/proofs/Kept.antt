@@ -1,15 +1,17 @@
 -- What waits of a line from its start, and why it is refused.
 use Prim.Native.Nat.{ℕ, ◌≤◌}
 use mathlib.Core.Path.{◌≡◌, refl, sym, ◌∙◌, ap}
-use mathlib.Core.List.{List, []}
+use mathlib.Core.Bool.{Bool, true, false}
+use mathlib.Core.List.{List, [], ◌++◌}
 use native.Mathlib.Omega.{arith}
 use lib.ListN.{length, take, length-take}
 use borrow.Author.Tests.{ne_eqb}
 use Rattle.paper.specs.Byte.{when◌then◌else◌}
 use Rattle.paper.specs.Line.{kept}
 use Rattle.paper.proofs.Law.{if_false}
+use Rattle.paper.proofs.Test.{clash}
 use Rattle.command.specs.declared.Refusal.TheVariants as W
-use Rattle.wait.specs.Waiting.{Waits, Waiting, Comes, fault_of}
+use Rattle.wait.specs.Waiting.{WaitingIn, ComesIn, Waits, Waiting, Comes, Gathered, fault_of}
 
 -- of no line nothing waits
 waits_none : (memory : List ℕ) → length memory ≡ 257 → Waits [] memory 0
@@ -37,3 +39,18 @@ fault_long n e = rw e
 pub fault_control : (n : ℕ) → (n ≡ 257 → ⊥) → W.ControlByte ≡ fault_of n
 unfolding fault_of
 fault_control n e = sym (if_false _ _ _ (ne_eqb n 257 e))
+
+-- `gather`: of a line that lies elsewhere nothing waits
+pub gathers_none : (room : ℕ) (old : List ℕ) (len : ℕ) (rest : List ℕ) (whole : Bool) → whole ≡ true → Gathered room old len rest whole old 0
+gathers_none room old len rest whole y = record { inside = omega arith; size = refl; none = λ z. (refl, refl); more = λ n. absurd (clash y n) }
+
+-- or more of a line comes
+pub gathers_more : (room : ℕ) (old : List ℕ) (len : ℕ) (rest : List ℕ) (whole : Bool) (new : List ℕ) (n : ℕ) → whole ≡ false → WaitingIn room old len → ComesIn room old len rest new n → Gathered room old len rest whole new n
+gathers_more room old len rest whole new n m w c =
+    let h = c.comes w.line w.waits in
+    record {
+      inside = omega (arith, h.counts, h.room, length-take room (w.line ++ kept rest));
+      size = h.room ∙ sym w.waits.room;
+      none = λ y. absurd (clash y m);
+      more = λ z. c;
+    }

@@ -2,30 +2,30 @@
 #![tactic(auto)]
 
 ghost use Rattle.std.specs.Prelude.{◌≡◌};
-ghost use Rattle.wait.specs.Waiting.{Waiting, Comes, fault_of};
+ghost use Rattle.wait.specs.Waiting.{WaitingIn, ComesIn, Gathered, line_by, fault_of};
 
 use command::Refusal;
 
 // So many bytes of a line are looked at: one more than the longest has.
 pub const SEEN: usize = 257;
 
-// More bytes of a line behind those that wait; how many wait then.
-pub fn put_kept(waiting: &mut [u8], len: usize, s: &[u8]) -> usize
-    requires { Waiting waiting.old len }
-    ensures { Comes waiting.old len s.now waiting.new result }
+// The byte that ended a file, which is dropped as CR is.
+const EOF: u8 = 0x1a;
+
+// More bytes of a line behind those that wait, of which there is room for so many; how many wait then.
+pub fn put_kept<const ROOM: usize>(waiting: &mut [u8], len: usize, s: &[u8]) -> usize
+    requires { WaitingIn ROOM waiting.old len }
+    ensures { ComesIn ROOM waiting.old len s.now waiting.new result }
 {
     let mut n = len;
-    let mut i = 0;
-    while i < s.len() {
-        let b = s[i];
-        i += 1;
+    for &b in s {
         if b == b'\r' {
             continue;
         }
-        if b == 0x1a {
+        if b == EOF {
             continue;
         }
-        if n < SEEN {
+        if n < ROOM {
             waiting[n] = b;
             n += 1;
         }
@@ -33,7 +33,28 @@ pub fn put_kept(waiting: &mut [u8], len: usize, s: &[u8]) -> usize
     n
 }
 
+// The rest of a line behind the bytes that wait of it; of a line that lies elsewhere whole none wait.
+#[tactic(auto, using(crate::proofs::Kept::gathers_none, crate::proofs::Kept::gathers_more))]
+pub fn gather<const ROOM: usize>(waiting: &mut [u8], len: usize, rest: &[u8], whole: bool) -> usize
+    requires { WaitingIn ROOM waiting.old len }
+    ensures { Gathered ROOM waiting.old len rest.now whole waiting.new result }
+{
+    if whole {
+        return 0;
+    }
+    put_kept::<ROOM>(waiting, len, rest)
+}
+
+// A line where it lies: elsewhere, or gathered.
+#[tactic(auto, unfolding(crate::specs::Waiting::line_by))]
+pub fn line_of<'a>(rest: &'a [u8], gathered: &'a [u8], whole: bool) -> &'a [u8]
+    ensures { result.now ≡ line_by whole rest.now gathered.now }
+{
+    if whole { rest } else { gathered }
+}
+
 // Why a line is refused of which so many bytes are kept, and a control byte is among them.
+#[tactic(auto, using(crate::proofs::Kept::fault_long, crate::proofs::Kept::fault_control))]
 pub fn fault_of(n: usize) -> Refusal
     ensures { result ≡ fault_of n }
 {

@@ -1,20 +1,21 @@
 -- By what the read came to.
-use borrow.Author.Rules.{rules}
-use Rattle.streams.proofs.Telling.{of_bytes}
-use Rattle.class_program.proofs.Passing.{obeys_bytes, obeys_end, obeys_failed}
+use mathlib.Core.Path.{◌∙◌, ap}
+use Rattle.streams.specs.Streams.{bytes_of}
+use Rattle.class_program.proofs.Passing.{obeys_bytes, obeys_nothing}
 use Rattle.class_program.proofs.obey.Goals as goal
-
-pub slice_bounds-pass-end : goal.slice_bounds-pass-end
-slice_bounds-pass-end g c = (of_bytes _ c.requires.reads c.in-Bytes.is).1.1
 
 pub pass-requires : goal.pass-requires
 pass-requires g c = record { stands = c.requires.stands; roomy = c.requires.roomy }
 
-pub returns-in-Bytes : goal.returns-in-Bytes
-returns-in-Bytes g c = obeys_bytes _ _ _ _ _ _ _ c.in-Bytes.is c.requires.reads c.pass.ensures
+pub returns-in-Ok-eq0 : goal.returns-in-Ok-eq0
+returns-in-Ok-eq0 g c =
+    let none = rw c.in-Ok-eq0.field-0-is at c.in-Ok-eq0.field-0-test in
+    obeys_nothing _ _ _ _ _ _ (ap bytes_of c.in-Ok-eq0.is ∙ none) c.requires.stands c.ended.ensures
 
-pub returns-in-End : goal.returns-in-End
-returns-in-End g c = obeys_end _ _ _ _ _ _ c.in-End.is c.requires.stands c.ended.ensures
+pub returns-in-Ok : goal.returns-in-Ok
+returns-in-Ok g c =
+    let some = rw c.in-Ok.is at c.in-Ok.n-test.1 in
+    obeys_bytes _ _ _ _ _ _ _ c.in-Ok.is some c.pass.ensures
 
-pub returns-in-Failed : goal.returns-in-Failed
-returns-in-Failed g c = obeys_failed _ _ _ _ _ _ _ c.in-Failed.is c.requires.stands c.ended-in-Failed.ensures
+pub returns-in-Err : goal.returns-in-Err
+returns-in-Err g c = obeys_nothing _ _ _ _ _ _ (ap bytes_of c.in-Err.is) c.requires.stands c.ended-in-Err.ensures

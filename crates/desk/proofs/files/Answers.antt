@@ -1,5 +1,4 @@
 -- The tag, and then the first byte.
-use borrow.Author.Rules.{rules}
 use borrow.Author.Tests.{eq-eqb, ne_eqb}
 use Rattle.desk.proofs.files.Goals as goal
 

@@ -1,5 +1,4 @@
 -- It is seen whether the line is free of bytes below 20H.
-use borrow.Author.Rules.{rules}
 use Rattle.desk.proofs.hear.Goals as goal
 
 pub hear_from-requires : goal.hear_from-requires

@@ -1,6 +1,5 @@
 -- What is left of the line is heard as the line, or tells that it is refused.
 use mathlib.Core.Path.{refl}
-use borrow.Author.Rules.{rules}
 use Rattle.wait.proofs.Kept.{waiting_none, waits_kept, kept_inside, kept_counts}
 use Rattle.tablets.proofs.Packed.{packed_sits}
 use Rattle.tablets.proofs.Leaving.{hears_waiting}

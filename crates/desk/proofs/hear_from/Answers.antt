@@ -1,7 +1,6 @@
 -- No such tablet is refused; a line with bytes below 20H goes its own way; the rest is as for a line without them.
 use mathlib.Core.Path.{refl, sym, ◌∙◌}
 use native.Mathlib.Omega.{arith}
-use borrow.Author.Rules.{rules}
 use Rattle.tablets.proofs.Packed.{packed_sits}
 use Rattle.tablets.proofs.Leaving.{reached_whole, tag_within, files_idle, not_denied, order_frees}
 use Rattle.tablets.proofs.Hearing.{mid_counted, order_hears}

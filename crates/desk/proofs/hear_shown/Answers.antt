@@ -1,6 +1,5 @@
 -- An answer is heard at its seat, a line to the store as the others let it, and behind any other it is counted who prints.
 use mathlib.Core.Path.{refl, sym, ◌∙◌}
-use borrow.Author.Rules.{rules}
 use Rattle.tablets.proofs.Packed.{packed_sits}
 use Rattle.tablets.proofs.Leaving.{reached_whole, tag_within, files_idle, order_frees}
 use Rattle.tablets.proofs.Hearing.{mid_counted, order_hears}

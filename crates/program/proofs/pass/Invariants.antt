@@ -1,15 +1,8 @@
 -- The loop keeps where the run stands behind what was written out so far.
-use mathlib.Core.Path.{◌∙◌, sym}
-use native.Mathlib.Omega.{arith}
 use lib.ListN.{length}
-use lib.Seq.{length-take-le}
-use borrow.Author.Rules.{rules}
-use borrow.Author.Tests.{not-true}
 use Rattle.call.specs.Call.{memory_of}
 use Rattle.flow.specs.Fill.{desk_of, place_in, weight}
-use Rattle.program.proofs.Passing.{Passing, passing_begins, passing_inside, passing_waits, passing_turns, passes_some, passes_all}
-use mathlib.Core.Path.{ap}
-use mathlib.Core.Bool.{not}
+use Rattle.program.proofs.Passing.{Passing}
 use Rattle.program.proofs.pass.Given as goal
 
 abbrev pub invariant-loop-filled : goal.invariant-loop-filled

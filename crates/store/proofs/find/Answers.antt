@@ -3,8 +3,8 @@ use borrow.Author.Rules.{rules}
 use Rattle.store.proofs.Seek.{seek_begins, seek_short, seek_room, seek_finds, seek_turns, seek_ends}
 use Rattle.store.proofs.find.Goals as goal
 
-pub loop-i-init : goal.loop-i-init
-loop-i-init c = search (rules, seek_begins)
+pub loop-index-init : goal.loop-index-init
+loop-index-init c = search (rules, seek_begins)
 
 pub is_named-requires : goal.is_named-requires
 is_named-requires c = (search rules, search seek_short, search rules)
@@ -15,8 +15,8 @@ returns-then-is_named c = search seek_finds
 pub overflow_add-start : goal.overflow_add-start
 overflow_add-start c = search seek_room
 
-pub loop-i-preserved : goal.loop-i-preserved
-loop-i-preserved c = search seek_turns
+pub loop-index-preserved : goal.loop-index-preserved
+loop-index-preserved c = search seek_turns
 
 pub returns : goal.returns
 returns c = search seek_ends

@@ -1,7 +1,7 @@
 -- The loop keeps the lines of the forms so far.
 use mathlib.Core.Path.{refl}
 use borrow.Author.Rules.{rules}
-use Rattle.store.proofs.Listing.{naming_begins, naming_short, naming_room, naming_length, naming_turns, naming_ends}
+use Rattle.store.proofs.Listing.{naming_begins, naming_short, naming_room, naming_turns, naming_ends}
 use Rattle.store.proofs.put_names.Goals as goal
 
 pub loop-i-init : goal.loop-i-init
@@ -13,9 +13,6 @@ put_name-next-requires c = (search rules, search naming_short, search rules, sea
 pub loop-i-preserved : goal.loop-i-preserved
 loop-i-preserved c = let l = c.loop-i in
     naming_turns _ _ _ _ _ _ _ _ _ l.invariant (search rules) refl c.put_name-next.ensures
-
-pub shape_of-out : goal.shape_of-out
-shape_of-out c = search naming_length
 
 pub returns : goal.returns
 returns c = search naming_ends

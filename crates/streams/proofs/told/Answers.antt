@@ -1,15 +1,18 @@
 -- Each return is the answer that the tests before it lead to.
-use Rattle.streams.proofs.Telling.{moved, nothing, again, failed}
+use Rattle.std.proofs.Common.{rules}
+use Rattle.streams.specs.Streams.{tried}
+use Rattle.streams.proofs.Telling.{interrupted, blocked, failed}
 use Rattle.streams.proofs.told.Goals as goal
 
-pub returns-then-n-gt0 : goal.returns-then-n-gt0
-returns-then-n-gt0 g c = moved c.args.got c.args.error _ c.if-n-gt0.true
+pub returns-in-Ok-clause-value : goal.returns-in-Ok-clause-value
+unfolding tried
+returns-in-Ok-clause-value g c = search rules
 
-pub returns-then-got-eq0 : goal.returns-then-got-eq0
-returns-then-got-eq0 g c = nothing _ c.args.error _ c.ranges.got c.if-n-gt0.false c.if-got-eq0.true
+pub returns-then-eq-clause-value : goal.returns-then-eq-clause-value
+returns-then-eq-clause-value g c = interrupted _ _ _ c.in-Err.is c.from-error.ensures c.if-eq.ensures
 
-pub returns-then-again : goal.returns-then-again
-returns-then-again g c = again c.args.got _ _ c.ranges.error c.if-n-gt0.false c.if-got-eq0.false c.if-again.ensures
+pub returns-then-eq-2-clause-value : goal.returns-then-eq-2-clause-value
+returns-then-eq-2-clause-value g c = blocked _ _ _ c.in-Err.is c.from-error.ensures c.if-eq.ensures c.if-eq-2.ensures
 
-pub returns : goal.returns
-returns g c = failed c.args.got _ _ c.ranges.error c.if-n-gt0.false c.if-got-eq0.false c.if-again.ensures
+pub returns-clause-value : goal.returns-clause-value
+returns-clause-value g c = failed _ _ _ c.in-Err.is c.from-error.ensures c.if-eq.ensures c.if-eq-2.ensures

@@ -1,21 +1,11 @@
 -- `name_in` answers whether the content is a name: its length is, and the bytes passed are, so that those from `i` on decide about the whole content. Each turn steps over one byte of the content.
-use mathlib.Core.Path.{refl}
 use native.Mathlib.Omega.{arith}
 use borrow.Author.Rules.{rules}
 use borrow.Author.Tests.{not-true, not-false}
 use Rattle.text.proofs.Content.{Steps, closes_steps}
-use Rattle.command.proofs.Held.{walk_turns, walk_stops, walk_ends}
-use Rattle.command.proofs.Name.{name_byte, name_empty, name_long, name_judged}
+use Rattle.command.proofs.Held.{walk_turns, walk_stops}
+use Rattle.command.proofs.Name.{name_byte, name_judged}
 use Rattle.command.proofs.range.name_in.Goals as goal
-
-pub returns-then-name-lt1 : goal.returns-then-name-lt1
-returns-then-name-lt1 c = search name_empty
-
-pub returns-then-name-gt16 : goal.returns-then-name-gt16
-returns-then-name-gt16 c = search name_long
-
-pub loop-i-init : goal.loop-i-init
-loop-i-init c = (refl, search rules)
 
 pub bounds-s-literal : goal.bounds-s-literal
 bounds-s-literal c =
@@ -41,6 +31,3 @@ pub loop-i-preserved : goal.loop-i-preserved
 loop-i-preserved c =
     let s : Steps c.args.s.now c.loop-i.i c.args.name.end c.literal_at-literal.result = search (rules, closes_steps) in
     (search (walk_turns, name_byte, not-false), s.left)
-
-pub returns : goal.returns
-returns c = search (name_judged, walk_ends)

@@ -7,7 +7,7 @@ use Rattle.text.specs.Place.{text_at, Closes}
 use Rattle.command.proofs.range.name_in.Given as goal
 
 abbrev pub invariant-loop-i : goal.invariant-loop-i
-invariant-loop-i l = (every is_name_byte (text_at l.s l.initial.i) ≡ every is_name_byte (text_at l.s l.i)) × Closes l.s l.i l.end
+invariant-loop-i l = (every is_name_byte (text_at l.s l.initial.i) ≡ every is_name_byte (text_at l.s l.i)) × Closes l.s l.i l.name.end
 
 abbrev pub decreases-loop-i : goal.decreases-loop-i
-decreases-loop-i l = l.end - l.i
+decreases-loop-i l = l.name.end - l.i

@@ -11,9 +11,6 @@ use Rattle.dialogue.proofs.fill.step_line.Goals as goal
 pub gather-n-requires : goal.gather-n-requires
 gather-n-requires c = line_at c.requires.stands.at
 
-pub slice_bounds-line_of-end-3 : goal.slice_bounds-line_of-end-3
-slice_bounds-line_of-end-3 c = sym (length-take-le _ _ c.gather-n.ensures.inside)
-
 pub talk_line-at-requires : goal.talk_line-at-requires
 talk_line-at-requires c = record { reached = c.requires.stands.at.holds.reached; in_bounds = (c.requires.room.reply_room, c.requires.room.out_room); s_value = line_shown _ _ _ _ _ c.line_of-s.ensures c.requires.clear }
 

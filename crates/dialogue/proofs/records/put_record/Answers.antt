@@ -11,15 +11,15 @@ use Rattle.dialogue.proofs.records.put_record.Goals as goal
 
 pub slice_bounds-put_all-end : goal.slice_bounds-put_all-end
 slice_bounds-put_all-end c =
-    let few : c.in-Accepted.len ≤ length c.args.reply.now = omega (arith, says_size _ _ c.in-Accepted.is, c.requires.answer_bound.0, c.requires.answer_bound.1) in
+    let few : c.in-Ok.len ≤ length c.args.reply.now = omega (arith, says_size _ _ c.in-Ok.is, c.requires.answer_bound.0, c.requires.answer_bound.1) in
     sym (length-take-le _ _ few)
 
 pub put_all-requires : goal.put_all-requires
 put_all-requires c =
-    omega (arith, length-take c.in-Accepted.len c.args.reply.now, says_size _ _ c.in-Accepted.is, c.put_ok-next.ensures.upper_bound, writes_length _ _ _ _ _ c.put_ok-next.ensures.writes, c.requires.at_in_bounds, c.requires.answer_bound.0)
+    omega (arith, length-take c.in-Ok.len c.args.reply.now, says_size _ _ c.in-Ok.is, c.put_ok-next.ensures.upper_bound, writes_length _ _ _ _ _ c.put_ok-next.ensures.writes, c.requires.at_in_bounds, c.requires.answer_bound.0)
 
-pub returns-in-Accepted : goal.returns-in-Accepted
-returns-in-Accepted c = search puts_ok
+pub returns-in-Ok : goal.returns-in-Ok
+returns-in-Ok c = search puts_ok
 
-pub returns-in-Refused : goal.returns-in-Refused
-returns-in-Refused c = search puts_no
+pub returns-in-Err : goal.returns-in-Err
+returns-in-Err c = search puts_no

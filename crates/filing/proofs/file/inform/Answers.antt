@@ -4,8 +4,8 @@ use Rattle.filing.proofs.Filing.{inform_not_now, beside_stocked, listing_inside,
 use Rattle.session.proofs.Tags.{tags}
 use Rattle.filing.proofs.file.inform.Goals as goal
 
-pub returns-in_default : goal.returns-in_default
-returns-in_default c = search (inform_not_now, tags)
+pub returns-in_default-clause-value : goal.returns-in_default-clause-value
+returns-in_default-clause-value c = search (inform_not_now, tags)
 
 pub put_listing-n-requires : goal.put_listing-n-requires
 put_listing-n-requires c = search (beside_stocked, rules)
@@ -16,5 +16,5 @@ slice_bounds-out-end c = search listing_inside
 pub slice_bounds-hand-end : goal.slice_bounds-hand-end
 slice_bounds-hand-end c = search listing_size
 
-pub returns : goal.returns
-returns c = search informs
+pub returns-clause-value : goal.returns-clause-value
+returns-clause-value c = search informs

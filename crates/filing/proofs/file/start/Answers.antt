@@ -4,8 +4,8 @@ use Rattle.filing.proofs.Filing.{start_not_now, named_short, copied_inside, copi
 use Rattle.session.proofs.Tags.{tags}
 use Rattle.filing.proofs.file.start.Goals as goal
 
-pub returns-in_default : goal.returns-in_default
-returns-in_default c = search (start_not_now, tags)
+pub returns-in_default-clause-value : goal.returns-in_default-clause-value
+returns-in_default-clause-value c = search (start_not_now, tags)
 
 pub name_of-n-requires : goal.name_of-n-requires
 name_of-n-requires c = search (named_short, rules)
@@ -19,17 +19,20 @@ slice_bounds-find-end c = search copied_size
 pub find-requires : goal.find-requires
 find-requires c = search beside_stocked
 
-pub slice_bounds-bytes-end-in-Absent : goal.slice_bounds-bytes-end-in-Absent
-slice_bounds-bytes-end-in-Absent c = search copied_inside
+pub slice_bounds-bytes-end-in-None : goal.slice_bounds-bytes-end-in-None
+slice_bounds-bytes-end-in-None c = search copied_inside
 
 pub slice_bounds-put_all-end : goal.slice_bounds-put_all-end
-slice_bounds-put_all-end c = search copied_size
+slice_bounds-put_all-end c = search copied_inside
 
 pub put_all-requires : goal.put_all-requires
 put_all-requires c = start_room _ _ _ _ _ c.requires.beside (search rules) c.requires.named c.name_of-n.ensures
 
-pub returns-in-At : goal.returns-in-At
-returns-in-At c = search start_taken
+pub slice_bounds-put_all-end-in-None : goal.slice_bounds-put_all-end-in-None
+slice_bounds-put_all-end-in-None c = search copied_size
 
-pub returns-in-Absent : goal.returns-in-Absent
-returns-in-Absent c = start_begins _ _ _ _ _ _ _ _ _ (search rules) c.requires.named c.name_of-n.ensures c.find.ensures (search rules) c.put_all.ensures c.done.ensures
+pub returns-in-Some-clause-value : goal.returns-in-Some-clause-value
+returns-in-Some-clause-value c = search start_taken
+
+pub returns-in-None-clause-value : goal.returns-in-None-clause-value
+returns-in-None-clause-value c = start_begins _ _ _ _ _ _ _ _ (search rules) c.requires.named c.name_of-n.ensures c.find.ensures (search rules) c.put_all.ensures

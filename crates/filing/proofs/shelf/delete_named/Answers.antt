@@ -16,10 +16,10 @@ pub find-requires : goal.find-requires
 find-requires c = search stocks_stocked
 
 pub take_out-requires : goal.take_out-requires
-take_out-requires c = finds_leaving _ _ _ _ _ _ c.requires.stocks c.find.ensures c.in-At.is
+take_out-requires c = finds_leaving _ _ _ _ c.requires.stocks c.find.ensures c.in-Some.is
 
-pub returns-in-At : goal.returns-in-At
-returns-in-At c = removes_one _ _ _ _ _ _ _ (search rules) c.find.ensures c.in-At.is c.take_out.ensures
+pub returns-in-Some : goal.returns-in-Some
+returns-in-Some c = removes_one _ _ _ _ _ (search rules) c.find.ensures c.in-Some.is c.take_out.ensures
 
-pub returns-in-Absent : goal.returns-in-Absent
-returns-in-Absent c = search removes_none
+pub returns-in-None : goal.returns-in-None
+returns-in-None c = search removes_none

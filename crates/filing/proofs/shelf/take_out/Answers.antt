@@ -15,8 +15,8 @@ overflow_sub-less c = leaving_inside _ _ _ _ _ c.requires c.remove-less.ensures
 pub overflow_mul-less : goal.overflow_mul-less
 overflow_mul-less c = omega (arith, leaving_small _ _ _ _ _ c.requires c.remove-less.ensures)
 
-pub close_numbers-requires : goal.close_numbers-requires
-close_numbers-requires c = leaving_room _ _ _ _ _ c.requires c.remove-less.ensures
+pub close-requires : goal.close-requires
+close-requires c = leaving_room _ _ _ _ _ c.requires c.remove-less.ensures
 
 pub returns : goal.returns
-returns c = shelf_leaves _ _ _ _ _ _ _ c.remove-less.ensures c.close_numbers.ensures
+returns c = shelf_leaves _ _ _ _ _ _ c.remove-less.ensures c.close.ensures

@@ -1,10 +1,8 @@
 -- Step by step; the measure is what is left to do.
-use native.Mathlib.Omega.{arith}
-use mathlib.Core.Path.{◌∙◌}
 use lib.ListN.{length}
 use Rattle.call.specs.Call.{memory_of}
-use Rattle.flow.specs.Fill.{place_of, weight, out_full, err_full}
-use Rattle.flow.proofs.Filling.{inside_within, filling_turns, fills_used, fills_full, Turning, turning_begins}
+use Rattle.flow.specs.Fill.{place_of, weight}
+use Rattle.flow.proofs.Filling.{Turning}
 use Rattle.flow.proofs.fill.fill.Given as goal
 
 abbrev pub invariant-loop-out : goal.invariant-loop-out

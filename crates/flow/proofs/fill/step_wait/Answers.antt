@@ -1,5 +1,4 @@
 -- All that is left of the input waits.
-use borrow.Author.Rules.{rules}
 use Rattle.flow.proofs.Filling.{room_within, steps_waits}
 use Rattle.flow.proofs.fill.step_wait.Goals as goal
 

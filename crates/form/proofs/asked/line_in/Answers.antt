@@ -2,11 +2,11 @@
 use Rattle.form.proofs.Defined.{line_counter, line_variable, line_other}
 use Rattle.form.proofs.asked.line_in.Goals as goal
 
-pub returns-then-b-eq67 : goal.returns-then-b-eq67
-returns-then-b-eq67 c = search line_counter
+pub returns-in-67 : goal.returns-in-67
+returns-in-67 c = search line_counter
 
-pub returns-then-b-eq86 : goal.returns-then-b-eq86
-returns-then-b-eq86 c = search line_variable
+pub returns-in-86 : goal.returns-in-86
+returns-in-86 c = search line_variable
 
-pub returns : goal.returns
-returns c = search line_other
+pub returns-in_default : goal.returns-in_default
+returns-in_default c = search line_other

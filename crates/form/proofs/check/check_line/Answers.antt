@@ -1,10 +1,9 @@
 -- `check_line` judges a line as what it is told to be: one that draws, or a definition.
-use borrow.Author.Rules.{rules}
 use Rattle.form.proofs.Judged.{draw_judged, told_judged}
 use Rattle.form.proofs.check.check_line.Goals as goal
 
-pub returns-in_default : goal.returns-in_default
-returns-in_default c = record { judges = search draw_judged; lens_len_unchanged = search rules }
+pub returns-in-Some-clause-judges : goal.returns-in-Some-clause-judges
+returns-in-Some-clause-judges c = search told_judged
 
-pub returns : goal.returns
-returns c = record { judges = search told_judged; lens_len_unchanged = search rules }
+pub returns-in-None-clause-judges : goal.returns-in-None-clause-judges
+returns-in-None-clause-judges c = search draw_judged

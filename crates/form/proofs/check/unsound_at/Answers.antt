@@ -1,44 +1,37 @@
--- `unsound_at` checks line after line: the lines before `at` keep the rules, so that those from there on decide.
-use native.Mathlib.Omega.{arith}
-use borrow.Author.Rules.{rules}
-use borrow.Author.Tests.{not-true, not-false}
-use Rattle.form.specs.Walk.{part_of}
-use Rattle.form.proofs.Lines.{Inside, end_inside}
+-- `unsound_at` checks line after line: the lines before the place keep the rules, so that those from there on decide.
+use mathlib.Core.Path.{ap}
+use Rattle.form.specs.declared.walk.Lines.{Lines}
+use Rattle.form.proofs.Lines.{line_here, lines_past}
 use Rattle.form.proofs.Slots.{agrees_none}
-use Rattle.form.proofs.Broken.{check_begins, check_turns, check_breaks, check_short, check_ends}
+use Rattle.form.proofs.Broken.{check_begins, check_breaks, check_turns, check_short, check_ends}
 use Rattle.form.proofs.check.unsound_at.Goals as goal
 
-pub loop-at-init : goal.loop-at-init
-loop-at-init c = check_begins _ _ agrees_none
+pub loop-line-init : goal.loop-line-init
+loop-line-init c =
+    let e = c.into_iter-line-iterator.ensures.into_iter_gives in
+    record { can = tt; ends = tt; text = ap (λ (s : Lines). s.text.now) e; checking = rw (ap (λ (s : Lines). s.at) e) (check_begins _ _ agrees_none) }
 
-pub slice_bounds-check_line-end : goal.slice_bounds-check_line-end
-slice_bounds-check_line-end c = let whole = c.loop-at.invariant.whole in search rules
+pub returns-then-not-check_line : goal.returns-then-not-check_line
+returns-then-not-check_line c =
+    let h = line_here _ _ _ _ _ c.next.ensures.steps c.in-Some.is c.loop-line.invariant.text in
+    check_breaks _ _ _ _ _ _ _ c.loop-line.invariant.checking h.before h.stands c.check_line.ensures.judges c.if-not-check_line.true
 
-pub slice_bounds-check_line-count : goal.slice_bounds-check_line-count
-slice_bounds-check_line-count c = let h : Inside c.args.text.now c.loop-at.at c.line_end-end.result = search end_inside in h.begins
-
-pub slice_bounds-check_line-start : goal.slice_bounds-check_line-start
-slice_bounds-check_line-start c = let h : Inside c.args.text.now c.loop-at.at c.line_end-end.result = search end_inside in search rules
-
-pub slice_bounds-check_line-end-in-loop-at : goal.slice_bounds-check_line-end-in-loop-at
-slice_bounds-check_line-end-in-loop-at c = let h : Inside c.args.text.now c.loop-at.at c.line_end-end.result = search end_inside in search rules
-
-pub returns-then-not-sound : goal.returns-then-not-sound
-unfolding part_of
-returns-then-not-sound c = check_breaks _ _ _ _ _ _ _ c.loop-at.invariant (search rules) c.line_end-end.ensures c.check_line-sound.ensures.judges (search not-true)
-
-pub overflow_add-at : goal.overflow_add-at
-overflow_add-at c = let h : Inside c.args.text.now c.loop-at.at c.line_end-end.result = search end_inside in omega arith
-
-pub loop-at-smaller : goal.loop-at-smaller
-loop-at-smaller c = let h : Inside c.args.text.now c.loop-at.at c.line_end-end.result = search end_inside in omega arith
-
-pub loop-at-preserved : goal.loop-at-preserved
-unfolding part_of
-loop-at-preserved c = search (check_turns, not-false)
+pub loop-line-preserved : goal.loop-line-preserved
+loop-line-preserved c =
+    let h = line_here _ _ _ _ _ c.next.ensures.steps c.in-Some.is c.loop-line.invariant.text in
+    record {
+      can = tt;
+      ends = tt;
+      text = h.text_same;
+      checking = check_turns _ _ _ _ _ _ _ c.loop-line.invariant.checking h.before h.stands c.check_line.ensures.judges c.check_line.ensures.lens_len_unchanged c.if-not-check_line.false _ h.next;
+    }
 
 pub returns-then-k-lt2 : goal.returns-then-k-lt2
-returns-then-k-lt2 c = search check_short
+returns-then-k-lt2 c =
+    let past = lines_past _ _ _ _ c.next.ensures.steps c.in-None.is c.loop-line.invariant.text in
+    check_short _ _ _ _ c.loop-line.invariant.checking past c.if-k-lt2.true
 
-pub returns : goal.returns
-returns c = search check_ends
+pub returns-else-k-lt2 : goal.returns-else-k-lt2
+returns-else-k-lt2 c =
+    let past = lines_past _ _ _ _ c.next.ensures.steps c.in-None.is c.loop-line.invariant.text in
+    check_ends _ _ _ _ c.loop-line.invariant.checking past c.if-k-lt2.false

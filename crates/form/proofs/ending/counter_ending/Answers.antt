@@ -1,14 +1,12 @@
 -- The test tells.
-use mathlib.Core.Path.{◌≡◌, refl}
-use mathlib.Core.Bool.{true, false}
-use borrow.Author.Rules.{rules}
 use Rattle.form.specs.Ending.{value_ending}
+use borrow.Author.Rules.{rules}
 use Rattle.form.proofs.ending.counter_ending.Goals as goal
 
 pub returns-then-opens : goal.returns-then-opens
 unfolding value_ending
-returns-then-opens c = let y : c.args.opens ≡ true = search rules in rw y refl
+returns-then-opens c = search rules
 
-pub returns : goal.returns
+pub returns-else-opens : goal.returns-else-opens
 unfolding value_ending
-returns c = let n : c.args.opens ≡ false = search rules in rw n refl
+returns-else-opens c = search rules

@@ -2,11 +2,11 @@
 use Rattle.form.proofs.LastBytes.{whole_short, whole_other, whole_closed, counter_ends, variable_ends}
 use Rattle.form.proofs.ending.ending_of.Goals as goal
 
-pub returns-then-size-lt4 : goal.returns-then-size-lt4
-returns-then-size-lt4 c = search whole_short
+pub returns-in_default : goal.returns-in_default
+returns-in_default c = search whole_short
 
-pub returns-then-line-ne65 : goal.returns-then-line-ne65
-returns-then-line-ne65 c = search whole_other
+pub returns-in_default-2 : goal.returns-in_default-2
+returns-in_default-2 c = search whole_other
 
 pub returns-then-last-eq34 : goal.returns-then-last-eq34
 returns-then-last-eq34 c = search whole_closed

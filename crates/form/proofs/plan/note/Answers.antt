@@ -1,5 +1,5 @@
 -- Each case of a definition has its numbers.
-use Rattle.form.proofs.Ends.{up_noted, down_noted, variable_noted, variable_fits}
+use Rattle.form.proofs.Ends.{variable_fits, up_noted, down_noted, variable_noted}
 use Rattle.form.proofs.plan.note.Goals as goal
 
 pub overflow_add-n : goal.overflow_add-n

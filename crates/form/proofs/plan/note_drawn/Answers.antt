@@ -1,5 +1,5 @@
 -- A value at the end of a line closes the open piece.
-use Rattle.form.proofs.Ends.{whole_drawn, value_drawn, tail_inside, number_small}
+use Rattle.form.proofs.Ends.{whole_drawn, tail_inside, number_small, value_drawn}
 use Rattle.form.proofs.plan.note_drawn.Goals as goal
 
 pub returns-in_default : goal.returns-in_default

@@ -1,5 +1,5 @@
 -- An open piece is noted, and then the definition.
-use Rattle.form.proofs.Ends.{gap_open, gap_define, gap_noted}
+use Rattle.form.proofs.Ends.{gap_open, gap_define}
 use Rattle.form.proofs.plan.note_gap.Goals as goal
 
 pub note_open-requires : goal.note_open-requires
@@ -7,6 +7,3 @@ note_open-requires c = search gap_open
 
 pub note-requires : goal.note-requires
 note-requires c = search gap_define
-
-pub returns : goal.returns
-returns c = search gap_noted

@@ -1,9 +1,7 @@
--- `read_clear` gives the empty line, or what the parts of a line of its kind say.
-use Rattle.line.proofs.Whole.{read_shown, shown_empty, shown_kind}
+-- `read_clear` reads a line with a byte by its kind.
+use borrow.Author.Rules.{rules}
+use Rattle.line.proofs.Whole.{read_shape}
 use Rattle.line.proofs.read.read_clear.Goals as goal
 
-pub returns-then-s-lt1 : goal.returns-then-s-lt1
-returns-then-s-lt1 c = search (read_shown, shown_empty)
-
 pub returns : goal.returns
-returns c = search (read_shown, shown_kind)
+returns c = search (rules, read_shape)

@@ -8,11 +8,11 @@ use Rattle.listen.proofs.obey.reset.Goals as goal
 pub fresh-requires : goal.fresh-requires
 fresh-requires c = search kept_used
 
-pub returns-in-Collecting : goal.returns-in-Collecting
-returns-in-Collecting c = search (minds_not_now, new_collecting)
+pub returns-in-Collecting-clause-value : goal.returns-in-Collecting-clause-value
+returns-in-Collecting-clause-value c = search (minds_not_now, new_collecting)
 
-pub returns-in-Spoiled : goal.returns-in-Spoiled
-returns-in-Spoiled c = search (minds_not_now, new_spoiled)
+pub returns-in-Spoiled-clause-value : goal.returns-in-Spoiled-clause-value
+returns-in-Spoiled-clause-value c = search (minds_not_now, new_spoiled)
 
-pub returns-in_default : goal.returns-in_default
-returns-in_default c = search (resets, tags)
+pub returns-in_default-clause-value : goal.returns-in_default-clause-value
+returns-in_default-clause-value c = search (resets, tags)

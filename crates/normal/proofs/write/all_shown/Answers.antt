@@ -1,5 +1,4 @@
 -- `all_shown` answers whether every byte of a string is shown: the bytes passed are, so that those from `i` on decide. Each turn steps over one byte of the content.
-use mathlib.Core.Path.{refl}
 use native.Mathlib.Omega.{arith}
 use borrow.Author.Rules.{rules}
 use Rattle.text.proofs.Content.{Steps, closes_steps}
@@ -7,23 +6,15 @@ use Rattle.command.proofs.Held.{walk_turns, walk_stops, walk_ends}
 use Rattle.normal.proofs.Judged.{byte_shown, byte_hidden}
 use Rattle.normal.proofs.write.all_shown.Goals as goal
 
-pub loop-i-init : goal.loop-i-init
-loop-i-init c = (refl, search rules)
-
 pub bounds-s-literal : goal.bounds-s-literal
 bounds-s-literal c =
     let s : Steps c.args.s.now c.loop-i.i c.args.end c.literal_at-literal.result = search (rules, closes_steps) in
     omega arith
 
-pub returns-then-s-literal-lt32 : goal.returns-then-s-literal-lt32
-returns-then-s-literal-lt32 c =
+pub returns-then-s-literal-lt-SHOWN : goal.returns-then-s-literal-lt-SHOWN
+returns-then-s-literal-lt-SHOWN c =
     let s : Steps c.args.s.now c.loop-i.i c.args.end c.literal_at-literal.result = search (rules, closes_steps) in
     search (walk_stops, byte_hidden)
-
-pub overflow_add-i : goal.overflow_add-i
-overflow_add-i c =
-    let s : Steps c.args.s.now c.loop-i.i c.args.end c.literal_at-literal.result = search (rules, closes_steps) in
-    omega arith
 
 pub loop-i-smaller : goal.loop-i-smaller
 loop-i-smaller c =
@@ -33,7 +24,7 @@ loop-i-smaller c =
 pub loop-i-preserved : goal.loop-i-preserved
 loop-i-preserved c =
     let s : Steps c.args.s.now c.loop-i.i c.args.end c.literal_at-literal.result = search (rules, closes_steps) in
-    let small = c.shared_slice_known-in-loop-i-1.given c.literal_at-literal.result in
+    let small = c.type_inv.s c.literal_at-literal.result in
     (search (walk_turns, byte_shown), s.left)
 
 pub returns : goal.returns

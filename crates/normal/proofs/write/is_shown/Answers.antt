@@ -1,23 +1,16 @@
--- `is_shown` answers whether a string is held and shown.
-use borrow.Author.Rules.{rules}
-use borrow.Author.Tests.{not-true, not-false}
-use Rattle.command.specs.View.{text_in}
+-- `is_shown` answers whether a string is held and has no byte below 20H.
 use Rattle.normal.specs.Normal.{shown_at}
-use Rattle.normal.proofs.Judged.{and_fails, and_passes, answered, told_closes}
+use Rattle.command.specs.View.{text_in}
+use Rattle.normal.proofs.Judged.{told_closes, and_passes, and_fails, answered}
 use Rattle.normal.proofs.write.is_shown.Goals as goal
 
-pub is_held-requires : goal.is_held-requires
-unfolding shown_at text_in
-is_held-requires c = search rules
-
-pub returns-then-not-is_held : goal.returns-then-not-is_held
-unfolding shown_at text_in
-returns-then-not-is_held c = search (and_fails, not-true)
-
 pub all_shown-requires : goal.all_shown-requires
-unfolding shown_at text_in
-all_shown-requires c = search (told_closes, not-false)
+all_shown-requires c = search told_closes
 
-pub returns : goal.returns
+pub returns-then-is_held : goal.returns-then-is_held
 unfolding shown_at text_in
-returns c = search (and_passes, answered, not-false)
+returns-then-is_held c = search (and_passes, answered)
+
+pub returns-else-is_held : goal.returns-else-is_held
+unfolding shown_at
+returns-else-is_held c = search and_fails

@@ -1,5 +1,4 @@
 -- `put_bar` writes an `L` line.
-use borrow.Author.Rules.{rules}
 use Rattle.normal.proofs.Piece.{rooms, pair_then, three_then, commas_last}
 use Rattle.normal.specs.Normal.{bar_text}
 use Rattle.normal.proofs.write.put_bar.Goals as goal
@@ -15,10 +14,6 @@ put_three-b-requires c = omega rooms
 pub put_decimal-requires : goal.put_decimal-requires
 unfolding bar_text
 put_decimal-requires c = omega rooms
-
-pub shape_of-out : goal.shape_of-out
-unfolding bar_text
-shape_of-out c = search rules
 
 pub returns : goal.returns
 unfolding bar_text

@@ -2,9 +2,6 @@
 use Rattle.normal.proofs.Piece.{rooms, byte_then, commaed_then}
 use Rattle.normal.proofs.write.put_counter.Goals as goal
 
-pub put-a-requires : goal.put-a-requires
-put-a-requires c = omega rooms
-
 pub put_part-b-requires : goal.put_part-b-requires
 put_part-b-requires c = omega rooms
 

@@ -1,5 +1,4 @@
 -- `put_direction` writes a `Z` line.
-use borrow.Author.Rules.{rules}
 use Rattle.normal.proofs.Piece.{rooms, byte_then}
 use Rattle.paper.specs.Byte.{bytes}
 use Rattle.paper.specs.Write.{normal, line_text, draw_text}
@@ -12,10 +11,6 @@ put-a-requires c = omega rooms
 pub put_letter-requires : goal.put_letter-requires
 unfolding normal line_text draw_text bytes
 put_letter-requires c = omega rooms
-
-pub shape_of-out : goal.shape_of-out
-unfolding normal line_text draw_text bytes
-shape_of-out c = search rules
 
 pub returns : goal.returns
 unfolding normal line_text draw_text bytes

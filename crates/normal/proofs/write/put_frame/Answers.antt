@@ -1,5 +1,4 @@
 -- `put_frame` writes an `X` line.
-use borrow.Author.Rules.{rules}
 use Rattle.normal.proofs.Piece.{rooms, byte_then, three_then, part_then, commas_last}
 use Rattle.paper.specs.Byte.{bytes}
 use Rattle.paper.specs.Write.{normal, line_text, draw_text}
@@ -20,10 +19,6 @@ put_part-c-requires c = omega rooms
 pub put_decimal-requires : goal.put_decimal-requires
 unfolding normal line_text draw_text bytes
 put_decimal-requires c = omega rooms
-
-pub shape_of-out : goal.shape_of-out
-unfolding normal line_text draw_text bytes
-shape_of-out c = search rules
 
 pub returns : goal.returns
 unfolding normal line_text draw_text bytes

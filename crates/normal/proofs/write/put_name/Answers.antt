@@ -1,5 +1,4 @@
 -- `put_name` writes a line to the store with a name.
-use borrow.Author.Rules.{rules}
 use Rattle.normal.proofs.Piece.{rooms, pair_then}
 use Rattle.normal.specs.Normal.{name_text}
 use Rattle.normal.proofs.write.put_name.Goals as goal
@@ -8,13 +7,9 @@ pub put_pair-a-requires : goal.put_pair-a-requires
 unfolding name_text
 put_pair-a-requires c = omega rooms
 
-pub put_string-requires : goal.put_string-requires
+pub put_string-requires-clause-room : goal.put_string-requires-clause-room
 unfolding name_text
-put_string-requires c = record { room = omega rooms; closes = search rules }
-
-pub shape_of-out : goal.shape_of-out
-unfolding name_text
-shape_of-out c = search rules
+put_string-requires-clause-room c = omega rooms
 
 pub returns : goal.returns
 unfolding name_text

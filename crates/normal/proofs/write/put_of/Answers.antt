@@ -1,5 +1,4 @@
 -- `put_of` writes a content, case by case.
-use borrow.Author.Rules.{rules}
 use Rattle.paper.specs.Write.{content_text, value_text}
 use Rattle.paper.specs.Byte.{bytes}
 use Rattle.command.specs.View.{content_of}
@@ -8,81 +7,41 @@ use Rattle.normal.proofs.Piece.{room_is, writes_is}
 use Rattle.normal.proofs.Record.{content_is, content_closes, variable_small, joined_small}
 use Rattle.normal.proofs.write.put_of.Goals as goal
 
-pub enum_known-content : goal.enum_known-content
-unfolding content_text content_of value_text bytes content_held
-enum_known-content c = search rules
-
 pub put_string-requires : goal.put_string-requires
 unfolding content_text content_of value_text bytes content_held
 put_string-requires c = record { room = search (room_is, content_is); closes = search content_closes }
-
-pub enum_known-content-in-Counter-1 : goal.enum_known-content-in-Counter-1
-unfolding content_text content_of value_text bytes content_held
-enum_known-content-in-Counter-1 c = search rules
 
 pub put_marked-requires : goal.put_marked-requires
 unfolding content_text content_of value_text bytes content_held
 put_marked-requires c = search (room_is, content_is)
 
-pub enum_known-content-in-Variable-1 : goal.enum_known-content-in-Variable-1
-unfolding content_text content_of value_text bytes content_held
-enum_known-content-in-Variable-1 c = search rules
-
 pub put_variable-requires : goal.put_variable-requires
 unfolding content_text content_of value_text bytes content_held
 put_variable-requires c = record { room = search (room_is, content_is); n_bound = search variable_small }
-
-pub enum_known-content-in-TextCounter-1 : goal.enum_known-content-in-TextCounter-1
-unfolding content_text content_of value_text bytes content_held
-enum_known-content-in-TextCounter-1 c = search rules
 
 pub put_string_counter-requires : goal.put_string_counter-requires
 unfolding content_text content_of value_text bytes content_held
 put_string_counter-requires c = record { room = search (room_is, content_is); closes = search content_closes }
 
-pub enum_known-content-in-TextVariable-1 : goal.enum_known-content-in-TextVariable-1
-unfolding content_text content_of value_text bytes content_held
-enum_known-content-in-TextVariable-1 c = search rules
-
 pub put_string_variable-requires : goal.put_string_variable-requires
 unfolding content_text content_of value_text bytes content_held
 put_string_variable-requires c = record { room = search (room_is, content_is); closes = search content_closes; n_bound = search joined_small }
-
-pub shape_of-out-in-Text : goal.shape_of-out-in-Text
-unfolding content_text content_of value_text bytes content_held
-shape_of-out-in-Text c = search rules
 
 pub returns-in-Text : goal.returns-in-Text
 unfolding content_text content_of value_text bytes content_held
 returns-in-Text c = search (writes_is, content_is)
 
-pub shape_of-out-in-Counter : goal.shape_of-out-in-Counter
-unfolding content_text content_of value_text bytes content_held
-shape_of-out-in-Counter c = search rules
-
 pub returns-in-Counter : goal.returns-in-Counter
 unfolding content_text content_of value_text bytes content_held
 returns-in-Counter c = search (writes_is, content_is)
-
-pub shape_of-out-in-Variable : goal.shape_of-out-in-Variable
-unfolding content_text content_of value_text bytes content_held
-shape_of-out-in-Variable c = search rules
 
 pub returns-in-Variable : goal.returns-in-Variable
 unfolding content_text content_of value_text bytes content_held
 returns-in-Variable c = search (writes_is, content_is)
 
-pub shape_of-out-in-TextCounter : goal.shape_of-out-in-TextCounter
-unfolding content_text content_of value_text bytes content_held
-shape_of-out-in-TextCounter c = search rules
-
 pub returns-in-TextCounter : goal.returns-in-TextCounter
 unfolding content_text content_of value_text bytes content_held
 returns-in-TextCounter c = search (writes_is, content_is)
-
-pub shape_of-out-in-TextVariable : goal.shape_of-out-in-TextVariable
-unfolding content_text content_of value_text bytes content_held
-shape_of-out-in-TextVariable c = search rules
 
 pub returns-in-TextVariable : goal.returns-in-TextVariable
 unfolding content_text content_of value_text bytes content_held

@@ -1,5 +1,4 @@
 -- `put_print` writes a `P` line.
-use borrow.Author.Rules.{rules}
 use Rattle.normal.proofs.Piece.{rooms, pieces}
 use Rattle.paper.specs.Byte.{bytes}
 use Rattle.paper.specs.Write.{normal}
@@ -16,10 +15,6 @@ put_part-b-requires c = omega rooms
 pub put_decimal-requires : goal.put_decimal-requires
 unfolding normal bytes
 put_decimal-requires c = omega rooms
-
-pub shape_of-out : goal.shape_of-out
-unfolding normal bytes
-shape_of-out c = search rules
 
 pub returns : goal.returns
 unfolding normal bytes

@@ -1,5 +1,4 @@
 -- `put_setting` writes the seven parameters of a text: its place and its look.
-use borrow.Author.Rules.{rules}
 use Rattle.command.specs.View.{setting_of}
 use Rattle.normal.proofs.Piece.{rooms, pieces}
 use Rattle.normal.proofs.write.put_setting.Goals as goal
@@ -11,10 +10,6 @@ put_three-a-requires c = omega rooms
 pub put_look-requires : goal.put_look-requires
 unfolding setting_of
 put_look-requires c = omega rooms
-
-pub shape_of-out : goal.shape_of-out
-unfolding setting_of
-shape_of-out c = search rules
 
 pub returns : goal.returns
 unfolding setting_of

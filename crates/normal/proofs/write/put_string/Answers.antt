@@ -1,5 +1,4 @@
 -- `put_string` writes a string between its quotes.
-use borrow.Author.Rules.{rules}
 use Rattle.command.specs.View.{text_in}
 use Rattle.normal.proofs.Piece.{rooms, pieces}
 use Rattle.normal.proofs.write.put_string.Goals as goal
@@ -8,17 +7,13 @@ pub put-a-requires : goal.put-a-requires
 unfolding text_in
 put-a-requires c = omega rooms
 
-pub put_content-b-requires : goal.put_content-b-requires
+pub put_content-b-requires-clause-start_in_bounds : goal.put_content-b-requires-clause-start_in_bounds
 unfolding text_in
-put_content-b-requires c = record { closes = search rules; start_in_bounds = omega rooms }
+put_content-b-requires-clause-start_in_bounds c = omega rooms
 
 pub put-requires : goal.put-requires
 unfolding text_in
 put-requires c = omega rooms
-
-pub shape_of-out : goal.shape_of-out
-unfolding text_in
-shape_of-out c = search rules
 
 pub returns : goal.returns
 unfolding text_in

@@ -1,21 +1,16 @@
 -- `put_string_counter` writes a string and a counter.
-use borrow.Author.Rules.{rules}
 use Rattle.normal.proofs.Piece.{rooms, pieces}
 use Rattle.paper.specs.Byte.{bytes}
 use Rattle.paper.specs.Write.{content_text, value_text}
 use Rattle.normal.proofs.write.put_string_counter.Goals as goal
 
-pub put_string-a-requires : goal.put_string-a-requires
+pub put_string-a-requires-clause-room : goal.put_string-a-requires-clause-room
 unfolding content_text value_text bytes
-put_string-a-requires c = record { room = omega rooms; closes = search rules }
+put_string-a-requires-clause-room c = omega rooms
 
 pub put_marked-requires : goal.put_marked-requires
 unfolding content_text value_text bytes
 put_marked-requires c = omega rooms
-
-pub shape_of-out : goal.shape_of-out
-unfolding content_text value_text bytes
-shape_of-out c = search rules
 
 pub returns : goal.returns
 unfolding content_text value_text bytes

@@ -1,5 +1,4 @@
 -- `put_text` writes an `A` line: the letter, the seven parameters and the content.
-use borrow.Author.Rules.{rules}
 use Rattle.normal.proofs.Piece.{rooms, pieces}
 use Rattle.paper.specs.Byte.{bytes}
 use Rattle.paper.specs.Write.{normal, line_text, draw_text}
@@ -15,13 +14,13 @@ pub put_setting-b-requires : goal.put_setting-b-requires
 unfolding normal line_text draw_text bytes put_of
 put_setting-b-requires c = record { room = omega rooms; m_bound = search text_mood }
 
-pub put_of-requires : goal.put_of-requires
+pub put_of-requires-clause-room : goal.put_of-requires-clause-room
 unfolding normal line_text draw_text bytes put_of
-put_of-requires c = record { room = omega rooms; content_value = search rules; content_value_2 = search text_content }
+put_of-requires-clause-room c = omega rooms
 
-pub shape_of-out : goal.shape_of-out
+pub put_of-requires-clause-content_value_2 : goal.put_of-requires-clause-content_value_2
 unfolding normal line_text draw_text bytes put_of
-shape_of-out c = search rules
+put_of-requires-clause-content_value_2 c = search text_content
 
 pub returns : goal.returns
 unfolding normal line_text draw_text bytes put_of

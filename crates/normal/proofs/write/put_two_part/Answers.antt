@@ -1,5 +1,4 @@
 -- `put_two_part` writes two digits and a comma.
-use borrow.Author.Rules.{rules}
 use Rattle.normal.proofs.Piece.{rooms, pieces}
 use Rattle.paper.specs.Write.{two}
 use Rattle.normal.proofs.write.put_two_part.Goals as goal
@@ -11,10 +10,6 @@ put_two-next-requires c = omega rooms
 pub put-requires : goal.put-requires
 unfolding two
 put-requires c = omega rooms
-
-pub shape_of-out : goal.shape_of-out
-unfolding two
-shape_of-out c = search rules
 
 pub returns : goal.returns
 unfolding two

@@ -1,5 +1,4 @@
 -- `put_variable` writes a `V` and two digits.
-use borrow.Author.Rules.{rules}
 use Rattle.normal.proofs.Piece.{rooms, pieces}
 use Rattle.paper.specs.Byte.{bytes}
 use Rattle.paper.specs.Write.{two, value_text}
@@ -12,10 +11,6 @@ put-next-requires c = omega rooms
 pub put_two-requires : goal.put_two-requires
 unfolding value_text two bytes
 put_two-requires c = omega rooms
-
-pub shape_of-out : goal.shape_of-out
-unfolding value_text two bytes
-shape_of-out c = search rules
 
 pub returns : goal.returns
 unfolding value_text two bytes

@@ -19,11 +19,11 @@ slice_bounds-plan-end c = planned_inside _ _ c.requires.planned
 pub judged-requires : goal.judged-requires
 judged-requires c = record { asking = answer_asking _ _ c.requires.mode_value _ c.requires.planned; a_value = c.requires.s_value; given_bound = planned_given _ _ c.requires.planned }
 
-pub returns-in_default : goal.returns-in_default
-returns-in_default c = answers_unfit _ _ _ _ _ _ _ c.requires.mode_value c.requires.s_value c.judged.ensures c.in_default.is (rw c.unfit_of.ensures at c.refuse.ensures)
+pub returns-in_default-clause-value : goal.returns-in_default-clause-value
+returns-in_default-clause-value c = answers_unfit _ _ _ _ _ _ _ c.requires.mode_value c.requires.s_value c.judged.ensures c.in_default.is (rw c.unfit_of.ensures at c.refuse.ensures.value)
 
-pub put_all-given-requires : goal.put_all-given-requires
-put_all-given-requires c = answer_room _ _ _ _ _ _ _ c.requires.mode_value c.requires.planned c.judged.ensures c.in-Kept.is
+pub put_all-session-requires : goal.put_all-session-requires
+put_all-session-requires c = answer_room _ _ _ _ _ _ c.requires.mode_value c.requires.planned c.judged.ensures c.in-Some.is
 
 pub note_value-requires : goal.note_value-requires
 note_value-requires c = record { asking = answer_asking _ _ c.requires.mode_value _ c.requires.planned; values_len = planned_values _ _ c.requires.planned }
@@ -31,5 +31,5 @@ note_value-requires c = record { asking = answer_asking _ _ c.requires.mode_valu
 pub overflow_add-k : goal.overflow_add-k
 overflow_add-k c = omega (arith, answer_count _ _ c.requires.mode_value _ c.requires.planned)
 
-pub returns : goal.returns
-returns c = answers_fit _ _ _ _ _ _ _ _ _ _ _ _ c.requires.planned c.requires.mode_value c.requires.s_value c.judged.ensures c.in-Kept.is c.put_all-given.ensures c.note_value.ensures c.waiting.ensures c.done.ensures
+pub returns-clause-value : goal.returns-clause-value
+returns-clause-value c = answers_fit _ _ _ _ _ _ _ _ _ _ c.requires.planned c.requires.mode_value c.requires.s_value c.judged.ensures c.in-Some.is c.put_all-session.ensures c.note_value.ensures c.waiting-session.ensures

@@ -4,8 +4,8 @@ use Rattle.printing.proofs.Answering.{asks}
 use Rattle.session.proofs.Tags.{tags}
 use Rattle.printing.proofs.answer.ask.Goals as goal
 
-pub returns-in_default : goal.returns-in_default
-returns-in_default c = search (minds_not_now, ask_not_now, tags)
+pub returns-in_default-clause-value : goal.returns-in_default-clause-value
+returns-in_default-clause-value c = search (minds_not_now, ask_not_now, tags)
 
-pub returns : goal.returns
-returns c = search asks
+pub returns-clause-value : goal.returns-clause-value
+returns-clause-value c = search (asks, tags)

@@ -6,8 +6,8 @@ use Rattle.printing.proofs.print.onward.Goals as goal
 pub fresh-requires : goal.fresh-requires
 fresh-requires c = kept_used _ c.requires.kept
 
-pub returns-then-next-sets : goal.returns-then-next-sets
-returns-then-next-sets c = search goes_idle
+pub returns-then-next-sets-clause-value : goal.returns-then-next-sets-clause-value
+returns-then-next-sets-clause-value c = search goes_idle
 
-pub returns : goal.returns
-returns c = search goes_onward
+pub returns-clause-value : goal.returns-clause-value
+returns-clause-value c = search goes_onward

@@ -9,8 +9,8 @@ use mathlib.Core.Bool.{not}
 use Rattle.session.proofs.Tags.{ready_tag, tags}
 use Rattle.printing.proofs.print.print.Goals as goal
 
-pub returns-in_default : goal.returns-in_default
-returns-in_default c = search (minds_follows, minds_not_now, print_not_now, tags)
+pub returns-in_default-clause-value : goal.returns-in_default-clause-value
+returns-in_default-clause-value c = search (minds_follows, minds_not_now, print_not_now, tags)
 
 pub overflow_mul-at : goal.overflow_mul-at
 overflow_mul-at c = omega (arith, planned_few _ _ c.requires.planned)
@@ -25,10 +25,10 @@ pub slice_bounds-all_hold-end : goal.slice_bounds-all_hold-end
 slice_bounds-all_hold-end c = planned_inside _ _ c.requires.planned
 
 pub all_hold-requires : goal.all_hold-requires
-all_hold-requires c = record { filled = ready_filled _ (ready_tag _ c.in-Ready.is) _ c.requires.planned; last_bound = omega arith }
+all_hold-requires c = record { filled = rw c.worth.ensures (ready_filled _ (ready_tag _ c.in-Ready.is) _ c.requires.planned); last_bound = omega arith }
 
-pub returns-then-not-all_hold : goal.returns-then-not-all_hold
-returns-then-not-all_hold c = print_overruns _ (ready_tag _ c.in-Ready.is) _ _ _ _ c.all_hold.ensures _ _ (not-true _ (ap not c.if-not-all_hold.true)) c.refuse-then-not-all_hold.ensures
+pub returns-then-not-all_hold-clause-value : goal.returns-then-not-all_hold-clause-value
+returns-then-not-all_hold-clause-value c = print_overruns _ (ready_tag _ c.in-Ready.is) _ _ _ _ (rw c.worth.ensures at c.all_hold.ensures) _ _ (not-true _ (ap not c.if-not-all_hold.true)) c.refuse-then-not-all_hold.ensures.value
 
-pub returns : goal.returns
-returns c = print_goes _ (ready_tag _ c.in-Ready.is) _ _ _ _ c.all_hold.ensures _ _ (not-false _ (ap not c.if-not-all_hold.false)) c.moved.ensures c.done.ensures
+pub returns-clause-value : goal.returns-clause-value
+returns-clause-value c = print_goes _ (ready_tag _ c.in-Ready.is) _ _ _ _ (rw c.worth.ensures at c.all_hold.ensures) (not-false _ (ap not c.if-not-all_hold.false))

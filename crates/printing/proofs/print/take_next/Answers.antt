@@ -3,5 +3,5 @@ use Rattle.printing.proofs.Printed.{takes_nothing}
 use Rattle.session.proofs.Tags.{tags}
 use Rattle.printing.proofs.print.take_next.Goals as goal
 
-pub returns-in_default : goal.returns-in_default
-returns-in_default c = search (takes_nothing, tags)
+pub returns-in_default-clause-value : goal.returns-in_default-clause-value
+returns-in_default-clause-value c = search (takes_nothing, tags)

@@ -2,7 +2,6 @@
 use Prim.Native.Nat.{◌+◌, ◌^◌, ◌≤◌, ◌<◌}
 use native.Mathlib.Omega.{arith}
 use lib.ListN.{length}
-use borrow.Author.Rules.{rules}
 use Rattle.reports.proofs.Saying.{hears_at, hears_fits}
 use Rattle.reports.proofs.calls.hear_line.Goals as goal
 

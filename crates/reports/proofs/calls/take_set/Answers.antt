@@ -2,7 +2,6 @@
 use Prim.Native.Nat.{◌+◌, ◌^◌, ◌≤◌, ◌<◌}
 use native.Mathlib.Omega.{arith}
 use lib.ListN.{length}
-use borrow.Author.Rules.{rules}
 use Rattle.reports.proofs.Saying.{takes_at, takes_fits}
 use Rattle.reports.proofs.calls.take_set.Goals as goal
 

@@ -1,5 +1,4 @@
 -- By whether the refusal gives one number or two.
-use borrow.Author.Rules.{rules}
 use Rattle.reports.proofs.Reporting.{report_one, report_two}
 use Rattle.reports.proofs.refusals.put_report.Goals as goal
 

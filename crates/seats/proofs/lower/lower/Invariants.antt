@@ -1,10 +1,6 @@
 -- The sessions below the loop's number have followed.
-use Prim.Native.Nat.{◌-◌}
 use Rattle.seats.proofs.Lowering.{Lowered}
 use Rattle.seats.proofs.lower.lower.Given as goal
 
 abbrev pub invariant-loop-k : goal.invariant-loop-k
-invariant-loop-k l = Lowered l.initial.held l.n l.size l.held l.k l.at
-
-abbrev pub decreases-loop-k : goal.decreases-loop-k
-decreases-loop-k l = 30 - l.k
+invariant-loop-k l = Lowered l.initial.held l.n l.size l.held l.k

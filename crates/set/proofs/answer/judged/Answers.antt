@@ -30,14 +30,14 @@ returns-then-len-a c = search judged_long
 pub returns-then-kind-eq-VARIABLE : goal.returns-then-kind-eq-VARIABLE
 returns-then-kind-eq-VARIABLE c = search judged_variable
 
-pub returns-then-a-lt1 : goal.returns-then-a-lt1
-returns-then-a-lt1 c = search judged_empty
+pub returns-then-is_empty : goal.returns-then-is_empty
+returns-then-is_empty c = search judged_empty
 
 pub amount_of-requires : goal.amount_of-requires
 amount_of-requires c = ask_nine c.args.plan.now c.args.k c.args.a.now c.requires.asking (search rules) (search rules)
 
-pub returns-in_default : goal.returns-in_default
-returns-in_default c = search judged_none
+pub returns-in_err-first : goal.returns-in_err-first
+returns-in_err-first c = judged_none _ _ _ _ (search rules) _ _ c.amount_of.ensures c.in_err-first.was c.from_residual.ensures
 
 pub returns : goal.returns
-returns c = search judged_counter
+returns c = judged_counter _ _ _ _ (search rules) _ _ _ c.amount_of.ensures c.in_ok-first.was c.is_empty.ensures c.if-is_empty.false (search rules)

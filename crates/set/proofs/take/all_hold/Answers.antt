@@ -1,26 +1,22 @@
--- The definitions that are left decide.
-use borrow.Author.Rules.{rules}
-use borrow.Author.Tests.{not-true, not-false}
-use Rattle.set.proofs.Holding.{hold_counted, hold_inside, hold_begins, hold_told, hold_turns, hold_breaks, hold_ends}
+-- Each definition holds.
+use Rattle.std.proofs.Common.{rules, arith, refl, tests, get_or}
+use Rattle.std.proofs.iter.Serving.{serving}
+use Rattle.std.proofs.lemmas.Iterator.{YieldsList-from_range}
+use Rattle.std.proofs.lemmas.Iterator.Search.{all_from_yields_List}
+use Rattle.set.specs.Piece.{holds_at}
+use Rattle.set.proofs.Holding.{hold_counted, hold_told, hold_all}
 use Rattle.set.proofs.take.all_hold.Goals as goal
 
 pub bounds-plan-0 : goal.bounds-plan-0
 bounds-plan-0 c = search hold_counted
 
-pub loop-k-init : goal.loop-k-init
-loop-k-init c = search hold_begins
-
-pub define_holds-requires : goal.define_holds-requires
-define_holds-requires c = record { define_told = search hold_told; last_bound = search rules }
-
-pub returns-then-not-define_holds : goal.returns-then-not-define_holds
-returns-then-not-define_holds c = search (hold_breaks, not-true)
-
-pub overflow_add-k : goal.overflow_add-k
-overflow_add-k c = let h = hold_inside c.args.plan.now c.args.values.now c.args.last _ _ c.loop-k.invariant (search rules) (search rules) c.requires.filled in search rules
-
-pub loop-k-preserved : goal.loop-k-preserved
-loop-k-preserved c = search (hold_turns, not-false)
+pub all-requires-clause-callable : goal.all-requires-clause-callable
+all-requires-clause-callable c = let h = hold_told _ _ c.requires.filled in grind (serving, h)
 
 pub returns : goal.returns
-returns c = search hold_ends
+returns c =
+    let plan = c.args.plan.now in
+    let count = get_or plan 0 0 in
+    hold_all plan c.args.values.now c.args.last c.all.result
+    (all_from_yields_List (λ k. holds_at plan c.args.values.now k c.args.last) _ _ c.all.result c.all.ensures.ran
+    (YieldsList-from_range 0 count count refl (omega arith)) (λ x b q k. search (rules, tests)))

@@ -1,10 +1,6 @@
 -- The loop writes one piece after the other.
-use Prim.Native.Nat.{◌-◌}
 use Rattle.set.proofs.Numbers.{Going}
 use Rattle.set.proofs.take.put_pieces.Given as goal
 
 abbrev pub invariant-loop-k : goal.invariant-loop-k
-invariant-loop-k l = Going l.text l.answers l.plan l.values l.i l.count l.initial.out l.at l.out l.next l.k
-
-abbrev pub decreases-loop-k : goal.decreases-loop-k
-decreases-loop-k l = l.count - l.k
+invariant-loop-k l = Going l.text l.answers l.plan l.values l.i l.k-end l.initial.out l.at l.out l.next l.k

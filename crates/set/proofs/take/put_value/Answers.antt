@@ -1,6 +1,6 @@
 -- The kind gives the clause: a part of the answers, or a count.
 use borrow.Author.Rules.{rules}
-use Rattle.set.proofs.Numbers.{value_within, escaped_room, escaped_writes, value_small, counted_room, counted_writes}
+use Rattle.set.proofs.Numbers.{value_within, escaped_room, escaped_writes, counted_room, counted_writes}
 use Rattle.set.proofs.take.put_value.Goals as goal
 
 pub shown-requires : goal.shown-requires
@@ -11,9 +11,6 @@ put_escaped-requires c = escaped_room c.args.answers.now c.args.values.now c.arg
 
 pub returns-then-kind-eq-VARIABLE : goal.returns-then-kind-eq-VARIABLE
 returns-then-kind-eq-VARIABLE c = search (escaped_writes, rules)
-
-pub value_at-requires : goal.value_at-requires
-value_at-requires c = value_small c.args.answers.now c.args.values.now c.args.value c.args.i (search rules) c.requires.told
 
 pub put_count-requires : goal.put_count-requires
 put_count-requires c = search (counted_room, rules)

@@ -6,5 +6,5 @@ use Rattle.talk.proofs.heads.put_figures.Goals as goal
 pub returns-in_default : goal.returns-in_default
 returns-in_default c = record { writes = search one_figure; upper_bound = search rules }
 
-pub returns : goal.returns
-returns c = record { writes = search two_figures; upper_bound = search rules }
+pub returns-in-Unsound : goal.returns-in-Unsound
+returns-in-Unsound c = record { writes = search two_figures; upper_bound = search rules }

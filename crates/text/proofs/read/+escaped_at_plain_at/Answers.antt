@@ -13,10 +13,6 @@ pub escaped_at-returns : goal.escaped_at-returns
 unfolding run_end
 escaped_at-returns t c = search (rules, escaped_goes)
 
-pub plain_at-run_end-end-requires : goal.plain_at-run_end-end-requires
-unfolding run_end
-plain_at-run_end-end-requires t c = search rules
-
 pub plain_at-returns-then-s-end : goal.plain_at-returns-then-s-end
 unfolding run_end
 plain_at-returns-then-s-end t c = search (rules, plain_run, plain_open)

@@ -4,10 +4,6 @@ use Rattle.text.proofs.Place.{past_end}
 use Rattle.text.specs.Place.{byte_at}
 use Rattle.text.proofs.read.byte_at.Goals as goal
 
-pub bounds-s-at : goal.bounds-s-at
-unfolding byte_at
-bounds-s-at c = search rules
-
 pub returns-then-at-s : goal.returns-then-at-s
 unfolding byte_at
 returns-then-at-s c = search rules

@@ -4,38 +4,14 @@ use Rattle.paper.specs.Read.{font}
 use Rattle.text.proofs.Place.{reading}
 use Rattle.text.proofs.read.font_at.Goals as goal
 
-pub number_at-requires : goal.number_at-requires
+pub returns-in-Some : goal.returns-in-Some
 unfolding font
-number_at-requires c = search rules
+returns-in-Some c = search (reading, rules)
 
-pub enum_known-n : goal.enum_known-n
+pub returns-in_err-letter : goal.returns-in_err-letter
 unfolding font
-enum_known-n c = search rules
-
-pub enum_told-1 : goal.enum_told-1
-unfolding font
-enum_told-1 c = search rules
-
-pub letter_at-requires : goal.letter_at-requires
-unfolding font
-letter_at-requires c = search rules
-
-pub enum_known-next : goal.enum_known-next
-unfolding font
-enum_known-next c = search rules
-
-pub enum_told-in_default-letter_at : goal.enum_told-in_default-letter_at
-unfolding font
-enum_told-in_default-letter_at c = search rules
-
-pub returns-in_default-letter_at : goal.returns-in_default-letter_at
-unfolding font
-returns-in_default-letter_at c = search reading
-
-pub returns-in_default : goal.returns-in_default
-unfolding font
-returns-in_default c = search reading
+returns-in_err-letter c = rw c.from_residual.ensures (search (reading, c.in_default.is, c.in_err-letter.was))
 
 pub returns : goal.returns
 unfolding font
-returns c = search reading
+returns c = search (reading, rules, c.in_default.is, c.in_ok-letter.was)

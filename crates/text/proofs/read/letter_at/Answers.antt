@@ -1,30 +1,19 @@
--- `letter_at` says what `letter` reads: each return is the law of a byte between two bounds, and a byte that is no 0 stands in the line.
-use borrow.Author.Rules.{rules}
+-- `letter_at` says what `letter` reads: each return is the law of a byte by a test, and a byte that passes it stands in the line.
 use native.Mathlib.Omega.{arith}
+use mathlib.Core.Path.{refl, sym, ◌∙◌}
+use Rattle.paper.specs.Byte.{between}
 use Rattle.paper.specs.Line.{letter}
-use Rattle.text.proofs.Place.{stands, reading}
+use Rattle.text.proofs.Place.{one_none, one_stands, one_some}
 use Rattle.text.proofs.read.letter_at.Goals as goal
 
-pub byte_at-b-requires : goal.byte_at-b-requires
-unfolding letter
-byte_at-b-requires c = search rules
-
-pub returns-then-b-lt65 : goal.returns-then-b-lt65
-unfolding letter
-returns-then-b-lt65 c = search (reading, rules)
-
-pub returns-then-b-gt90 : goal.returns-then-b-gt90
-unfolding letter
-returns-then-b-gt90 c = search (reading, rules)
-
-pub overflow_cast-result : goal.overflow_cast-result
-unfolding letter
-overflow_cast-result c = search rules
+pub returns-then-not-is_ascii_uppercase : goal.returns-then-not-is_ascii_uppercase
+unfolding letter between
+returns-then-not-is_ascii_uppercase c = one_none (between 65 90) _ _ _ c.byte_at-b.ensures (sym c.is_ascii_uppercase.ensures.value ∙ c.if-not-is_ascii_uppercase.true)
 
 pub overflow_add-result : goal.overflow_add-result
-unfolding letter
-overflow_add-result c = let h = stands _ _ _ c.byte_at-b.ensures (omega arith) in omega arith
+unfolding between
+overflow_add-result c = let h = one_stands (between 65 90) _ _ _ c.byte_at-b.ensures refl (sym c.is_ascii_uppercase.ensures.value ∙ c.if-not-is_ascii_uppercase.false) in omega arith
 
 pub returns : goal.returns
-unfolding letter
-returns c = search (reading, rules)
+unfolding letter between
+returns c = one_some (between 65 90) _ _ _ c.byte_at-b.ensures refl (sym c.is_ascii_uppercase.ensures.value ∙ c.if-not-is_ascii_uppercase.false)

@@ -4,22 +4,22 @@ use native.Mathlib.Omega.{arith}
 use Rattle.text.proofs.Digits.{count_begins, count_turns, count_stops, count_ends, count_small, digit_small}
 use Rattle.text.proofs.read.more_digits.Goals as goal
 
-pub loop-left-init : goal.loop-left-init
-loop-left-init c = search (rules, count_begins)
+pub loop-init : goal.loop-init
+loop-init c = search (rules, count_begins)
 
 pub returns-in_default : goal.returns-in_default
-returns-in_default c = search count_stops
+returns-in_default c = search (rules, count_stops)
 
-pub overflow_mul-n : goal.overflow_mul-n
-overflow_mul-n c = let h = count_small _ _ _ _ _ c.loop-left.invariant in omega arith
+pub overflow_mul-number : goal.overflow_mul-number
+overflow_mul-number c = let h = count_small _ _ _ _ c.loop.invariant in omega arith
 
-pub overflow_add-n : goal.overflow_add-n
-overflow_add-n c = let h = count_small _ _ _ _ _ c.loop-left.invariant in
-    let k = digit_small _ _ _ _ _ c.digit_at.ensures c.in-Value.is in
+pub overflow_add-number : goal.overflow_add-number
+overflow_add-number c = let h = count_small _ _ _ _ c.loop.invariant in
+    let k = digit_small _ _ _ _ c.digit_at.ensures c.in-Some.is in
     omega arith
 
-pub loop-left-preserved : goal.loop-left-preserved
-loop-left-preserved c = search (rules, count_turns)
+pub loop-preserved : goal.loop-preserved
+loop-preserved c = search (rules, count_turns)
 
 pub returns : goal.returns
-returns c = search (rules, count_ends)
+returns c = count_ends _ _ _ _ c.loop.invariant (omega arith)

@@ -6,28 +6,15 @@ use Rattle.text.proofs.Place.{reading, said_inside}
 use Rattle.text.proofs.Digits.{digit_small}
 use Rattle.text.proofs.read.number_at.Goals as goal
 
-pub digit_at-requires : goal.digit_at-requires
+pub returns-in_err-digit : goal.returns-in_err-digit
 unfolding number
-digit_at-requires c = search rules
-
-pub enum_known-n : goal.enum_known-n
-unfolding number
-enum_known-n c = search rules
-
-pub enum_told-1 : goal.enum_told-1
-unfolding number
-enum_told-1 c = search rules
-
-pub returns-in_default : goal.returns-in_default
-unfolding number
-returns-in_default c = search reading
+returns-in_err-digit c = rw c.from_residual.ensures (search (reading, c.in_err-digit.was))
 
 pub more_digits-requires : goal.more_digits-requires
-unfolding number
-more_digits-requires c = let small = digit_small _ _ _ _ _ c.digit_at.ensures c.in-Value.is in
-    let inside = said_inside _ _ _ _ _ c.digit_at.ensures c.in-Value.is in
+more_digits-requires c = let small = digit_small _ _ _ _ c.digit_at.ensures c.in_ok-digit.was in
+    let inside = said_inside _ _ _ _ c.digit_at.ensures c.in_ok-digit.was in
     omega arith
 
 pub returns : goal.returns
 unfolding number
-returns c = search reading
+returns c = search (reading, rules, c.in_ok-digit.was)

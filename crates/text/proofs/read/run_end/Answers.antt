@@ -1,16 +1,13 @@
 -- `run_end` answers where a run ends: from `i` on it ends where it ends from the start on, and each return is the law of its byte.
-use borrow.Author.Rules.{rules}
-use Rattle.text.proofs.Quote.{run_past, run_stops, run_goes}
+use Rattle.text.proofs.Quote.{run_over, run_stops, run_goes}
+use Rattle.text.proofs.read.run_end.Goals.{in-34, in_default}
 use Rattle.text.proofs.read.run_end.Goals as goal
 
-pub returns-then-b-eq34 : goal.returns-then-b-eq34
-returns-then-b-eq34 c = search (rules, run_stops)
-
-pub returns-then-b-eq92 : goal.returns-then-b-eq92
-returns-then-b-eq92 c = search (rules, run_stops)
+pub returns-then-matches : goal.returns-then-matches
+returns-then-matches c = elim c.match-matches.branch [ in-34 w ↦ search run_stops | in_default w ↦ absurd cc ]
 
 pub loop-i-preserved : goal.loop-i-preserved
-loop-i-preserved c = search (rules, run_goes)
+loop-i-preserved c = elim c.match-matches.branch [ in-34 w ↦ absurd cc | in_default w ↦ search run_goes ]
 
 pub returns : goal.returns
-returns c = search (rules, run_past)
+returns c = rw c.max.ensures (search run_over)

@@ -4,14 +4,14 @@ use Rattle.text.proofs.Written.{writing_begins, writing_room, writing_turns, wri
 use Rattle.text.proofs.Content.{escape_next, escape_past}
 use Rattle.text.proofs.write.put_escaped.Goals as goal
 
-pub loop-i-init : goal.loop-i-init
-loop-i-init c = search (rules, writing_begins)
+pub loop-b-init : goal.loop-b-init
+loop-b-init c = search (rules, writing_begins)
 
 pub put_escaped_byte-next-requires : goal.put_escaped_byte-next-requires
 put_escaped_byte-next-requires c = search (rules, writing_room, escape_next)
 
-pub loop-i-preserved : goal.loop-i-preserved
-loop-i-preserved c = search (rules, writing_turns, escape_next)
+pub loop-b-preserved : goal.loop-b-preserved
+loop-b-preserved c = search (rules, writing_turns, escape_next)
 
 pub shape_of-buf : goal.shape_of-buf
 shape_of-buf c = search (rules, writes_length)

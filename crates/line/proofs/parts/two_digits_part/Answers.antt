@@ -1,6 +1,0 @@
--- `two_digits_part` says what the paper's part reads: what was read, and then the comma.
-use Rattle.line.proofs.Chain.{part_says}
-use Rattle.line.proofs.parts.two_digits_part.Goals as goal
-
-pub returns : goal.returns
-returns c = search part_says

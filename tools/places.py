@@ -114,7 +114,7 @@ KINDS = [
     ("4b", "derives of Clone and Copy alone", lambda: matches(r"^ *#\[derive\(Clone, Copy\)\]$")),
     ("4c", "conversions and comparisons by hand", lambda: matches(r"^(?:pub )?fn (?:number_of|is_same|mode_of|code_of|held_of|filed_of|put_held|put_filed|errno_of|reason|digit_of|digit|show_answer)\b")),
     ("5", "functions with parameters that travel together", together),
-    ("6", "a buffer with its length beside it, in a struct", lambda: matches(r"^ *(?:pub )?\w+: \[\w+; \d+\],\n *(?:pub )?len: usize,")),
+    ("6", "a buffer with its length beside it, in a struct", lambda: matches(r"^ *(?:pub )?\w+: \[\w+; \w+\],\n *(?:pub )?len: usize,")),
     ("6p", "a buffer and the place in it as parameters", lambda: matches(r"\b(?:out|buf|err|line): &mut \[u8\],\s*at: usize")),
     ("7", "enums without values that only say which step runs", lambda: matches(r"^(?:pub )?enum (?:Pen|Errand|Kind|Call) \{")),
     ("8", "answers", None),

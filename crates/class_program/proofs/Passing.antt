@@ -1,6 +1,6 @@
 -- A piece of input, fill by fill, and the reads one after the other.
 use Prim.Native.Nat.{ℕ, ◌≤◌, ◌<◌}
-use mathlib.Core.Path.{◌≡◌, refl, sym, ◌∙◌}
+use mathlib.Core.Path.{◌≡◌, refl, sym, ◌∙◌, ap}
 use mathlib.Core.Bool.{Bool, true, false, false≢true}
 use mathlib.Core.List.{List}
 use native.Mathlib.Omega.{arith}
@@ -9,9 +9,10 @@ use lib.IntN.{ℤ}
 use Rattle.paper.specs.Line.{kept}
 use Rattle.paper.proofs.Test.{either}
 use Rattle.text.specs.Place.{from}
-use Rattle.std.proofs.Common.{Result, Ok, Err}
-use Rattle.streams.specs.Streams.{bytes_of, Writes}
+use Rattle.std.proofs.Common.{Option, Some, Result, Ok, Err}
+use Rattle.streams.specs.Streams.{bytes_of, Reads, Writes}
 use Rattle.streams.specs.declared.errors.Errno.{Errno}
+use Rattle.streams.proofs.Telling.{of_bytes}
 use Rattle.call.specs.Call.{Memory}
 use Rattle.tablets.specs.Calls.{Reached, Begins}
 use Rattle.tablets.proofs.Leading.{begins_on}
@@ -99,7 +100,7 @@ failed_some n written error e h = let some : Writes n (Err error) = rw e at h in
 abbrev last : ℕ → Passed
 last len = record { len = len; next = 0; going = false }
 
-module _ (len : ℕ) (memory : Memory) (waiting : List ℕ) (read : Result ℕ Errno) (input : List ℕ) where
+module _ (len : ℕ) (memory : Memory) (waiting : List ℕ) (read : Result (Option ℕ) Errno) (input : List ℕ) where
   -- a read brought nothing
   obeys_none : bytes_of read ≡ 0 → Stands (desk_of len memory waiting) → Obeys (desk_of len memory waiting) read input (desk_of len memory waiting) 0 false
   unfolding from
@@ -114,10 +115,12 @@ module _ (len : ℕ) (memory : Memory) (waiting : List ℕ) (read : Result ℕ E
   obeys_nothing r e t is = rw is (obeys_none e t)
 
 -- or it brought some bytes
-pub obeys_bytes : (d : Desk) (read : Result ℕ Errno) (input : List ℕ) (n : ℕ) (e : Desk) (next : ℕ) (going : Bool) → read ≡ Ok n → (n ≡ 0 → ⊥) → Passes d (take n input) e next going
+pub obeys_bytes : (d : Desk) (read : Result (Option ℕ) Errno) (input : List ℕ) (n : ℕ) (e : Desk) (next : ℕ) (going : Bool) → read ≡ Ok (Some n) → Reads input read → Passes d (take n input) e next going
     → Obeys d read input e next going
-obeys_bytes d read input n e next going is some p =
-    record { passes = rw is p; stops = λ z. absurd (some (rw is at z)) }
+obeys_bytes d read input n e next going is reads p =
+    let some = of_bytes input reads is in
+    let count : bytes_of read ≡ n = ap bytes_of is in
+    record { passes = rw is p; stops = λ z. absurd (omega (arith, some.0, count, z)) }
 
 -- a run with nothing that waits stands at the start with a class that has just begun
 pub begins_at : (m : Memory) (wait : List ℕ) → Begins m → length wait ≡ 263 → At (desk_of 0 m wait) start
@@ -155,7 +158,7 @@ module _ {d₀ : Desk} {input₀ reply₀ out₀ : List ℕ} {d : Desk} {input r
   reading_roomy = record { reply_room = omega (arith, t.reply_size, t.roomy.reply_room); out_room = omega (arith, t.out_size, t.roomy.out_room) }
 
   -- a read more
-  pub reading_turns : (e : Desk) (new newReply new_out : List ℕ) (read : Result ℕ Errno) (next : ℕ) (going : Bool) → Obeys d read new e next going → Sized d e
+  pub reading_turns : (e : Desk) (new newReply new_out : List ℕ) (read : Result (Option ℕ) Errno) (next : ℕ) (going : Bool) → Obeys d read new e next going → Sized d e
       → length new ≡ length input → length newReply ≡ length reply → length new_out ≡ length out → Reading d₀ input₀ reply₀ out₀ e new newReply new_out
   reading_turns e new newReply new_out read next going o sizes i j k =
       record {

@@ -105,7 +105,7 @@ fn obey(
     to: &mut impl io::Write,
     errors: &mut impl io::Write,
     len: usize,
-    read: Result<usize, Errno>,
+    read: Result<Option<usize>, Errno>,
     all: &mut [u8],
     names: &mut [u8],
     texts: &mut [usize],
@@ -128,8 +128,8 @@ fn obey(
     ensures { Obeys (desk_of len (memory_of all.old names.old texts.old lens.old plans.old filed.old name.old text.old answers.old values.old held.old) waiting.old) read input.now (desk_of result.len (memory_of all.new names.new texts.new lens.new plans.new filed.new name.new text.new answers.new values.new held.new) waiting.new) result.next result.going }
 {
     match read {
-        Ok(0) => ended(len),
-        Ok(n) => pass(
+        Ok(None) => ended(len),
+        Ok(Some(n)) => pass(
             clock,
             to,
             errors,

@@ -19,7 +19,7 @@ use Rattle.text.specs.Place.{from}
 use Rattle.command.specs.View.{width}
 use Rattle.form.specs.Walk.{first_line}
 use Rattle.form.specs.Sound.{Agrees, Judges, line_number}
-use Rattle.form.proofs.Lines.{Turn, line_turn, lines_end}
+use Rattle.form.proofs.Lines.{First, line_first, lines_end}
 use Rattle.form.proofs.Judged.{Checks}
 
 -- a line that keeps the rules leaves the rest to the lines below it
@@ -59,7 +59,7 @@ check_begins text lens a = record {
 module _ (text : List ℕ) (lens : List (Option ℕ)) (at k : ℕ) (bytes : List ℕ) (r : Bool) (new : List (Option ℕ)) (h : Checking text lens at k) (p : at < length text)
     (e : bytes ≡ first_line (from text at)) (checks : Checks k bytes lens r new) where
   -- the line is judged below the definitions above it
-  judged : (above : List P.Define) → Agrees lens above → {rest : List P.FormLine} (t : Turn text at rest bytes) → Judges k above t.line r new
+  judged : (above : List P.Define) → Agrees lens above → {rest : List P.FormLine} (t : First text at rest bytes) → Judges k above t.line r new
   judged above a t = checks t.line above t.stands t.range a
 
   -- a line keeps the rules
@@ -68,7 +68,7 @@ module _ (text : List ℕ) (lens : List (Option ℕ)) (at k : ℕ) (bytes : List
     where
       goes : (ls : List P.FormLine) → Below text ls lens at k → Below text ls new next (k + 1)
       goes ls b =
-          let t = line_turn text at b.left bytes b.here b.inside p e in
+          let t = line_first text at b.left bytes b.here b.inside p e in
           let j = judged b.above b.agrees t in
           record {
             left = t.more;
@@ -84,7 +84,7 @@ module _ (text : List ℕ) (lens : List (Option ℕ)) (at k : ℕ) (bytes : List
   unfolding line_number
   check_breaks n ls q i =
       let b = h.below ls q i in
-      let t = line_turn text at b.left bytes b.here b.inside p e in
+      let t = line_first text at b.left bytes b.here b.inside p e in
       let j = judged b.above b.agrees t in
       sym (ap line_number (b.same ∙ ap (first_broken k b.above) t.is ∙ broken_here k b.above t.line t.more (sym j.judged ∙ n)))
 

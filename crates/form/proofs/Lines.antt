@@ -23,7 +23,7 @@ use Rattle.paper.proofs.RoundTrip.{normal_control}
 use Rattle.text.specs.Place.{from}
 use Rattle.command.specs.View.{width}
 use Rattle.form.specs.Asked.{line_of}
-use Rattle.form.specs.Walk.{first_line, Next, lines_steps}
+use Rattle.form.specs.Walk.{first_line, part_of, Next, lines_steps}
 use Rattle.form.specs.declared.asked.Define.{Define}
 use Rattle.form.specs.declared.walk.Line.{Line}
 use Rattle.form.specs.declared.walk.Lines.{Lines}
@@ -93,7 +93,7 @@ abbrev pub Tells : List ℕ → Option Define → Type 0
 Tells s told = (l : FormLine) → s ≡ line_text l → in_range width (keep l) ≡ true → told ≡ line_of l
 
 -- a line of a form at a place of its text, and behind its LF the other lines
-pub record Turn (text : List ℕ) (at : ℕ) (rest : List FormLine) (bytes : List ℕ) : Type 0 where
+pub record First (text : List ℕ) (at : ℕ) (rest : List FormLine) (bytes : List ℕ) : Type 0 where
   pub line : FormLine
   pub more : List FormLine
   pub is : rest ≡ line ∷ more
@@ -113,10 +113,10 @@ lines_end text at (l ∷ more) e h =
     absurd (omega (arith, length-append (normal (keep l)) (lf ∷ text_of more), some))
 
 -- the line at a place before the end
-pub line_turn : (text : List ℕ) (at : ℕ) (rest : List FormLine) (bytes : List ℕ) → from text at ≡ text_of rest → all_in width rest ≡ true → at < length text → bytes ≡ first_line (from text at) → Turn text at rest bytes
+pub line_first : (text : List ℕ) (at : ℕ) (rest : List FormLine) (bytes : List ℕ) → from text at ≡ text_of rest → all_in width rest ≡ true → at < length text → bytes ≡ first_line (from text at) → First text at rest bytes
 unfolding from text_of lines_text all_in normal
-line_turn text at [] bytes e i h p = absurd (omega (arith, length-drop at text, ap length e))
-line_turn text at (l ∷ more) bytes e i h p =
+line_first text at [] bytes e i h p = absurd (omega (arith, length-drop at text, ap length e))
+line_first text at (l ∷ more) bytes e i h p =
     let inside : in_range width (keep l) ≡ true = and_left _ (all_in width more) i in
     let stands : bytes ≡ line_text l = p ∙ rw e (first_line_ends (line_text l) _ (normal_control width (keep l) inside)) in
     let behind : at + length bytes + 1 ≡ at + (length (line_text l) + 1) = omega (arith, ap length stands) in
@@ -129,6 +129,32 @@ line_turn text at (l ∷ more) bytes e i h p =
       after = rw (behind, ← drop-drop, e) (drop-append-add (line_text l) _ 1);
       below = and_right (in_range width (keep l)) _ i;
       range = inside;
+    }
+
+-- the same by the line's end: it is the part of the text up to there
+pub record Turn (text : List ℕ) (at : ℕ) (rest : List FormLine) (end : ℕ) : Type 0 where
+  pub line : FormLine
+  pub more : List FormLine
+  pub is : rest ≡ line ∷ more
+  pub stands : part_of text at end ≡ line_text line
+  pub place : end ≡ at + length (line_text line)
+  pub after : from text (end + 1) ≡ text_of more
+  pub below : all_in width more ≡ true
+  pub range : in_range width (keep line) ≡ true
+
+pub line_turn : (text : List ℕ) (at : ℕ) (rest : List FormLine) (end : ℕ) → from text at ≡ text_of rest → all_in width rest ≡ true → at < length text → end ≡ at + length (first_line (from text at)) → Turn text at rest end
+unfolding part_of
+line_turn text at rest end e i h p =
+    let t = line_first text at rest (first_line (from text at)) e i h refl in
+    record {
+      line = t.line;
+      more = t.more;
+      is = t.is;
+      stands = line_stands text at end p ∙ t.stands;
+      place = p ∙ ap (λ s. at + length s) t.stands;
+      after = rw p t.after;
+      below = t.below;
+      range = t.range;
     }
 
 -- what comes next of the lines of a text

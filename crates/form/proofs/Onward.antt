@@ -23,7 +23,7 @@ use Rattle.form.specs.Ending.{value_ending, ending_of, tail_of, number_in}
 use Rattle.form.specs.Noting.{DrawnRoom, GapRoom, DrawnNoted, GapNoted, Going, Walking, Walked}
 use Rattle.form.specs.declared.asked.Define.{Define}
 use Rattle.form.specs.declared.ending.Ending.{Ending}
-use Rattle.form.proofs.Lines.{Tells, Turn, line_turn}
+use Rattle.form.proofs.Lines.{Tells, First, line_first}
 use Rattle.form.proofs.Ends.{Ends, Shown, shown_range}
 use Rattle.form.proofs.LastBytes.{counter_few, variable_few, counter_text, variable_text}
 use Rattle.form.proofs.Distinct.{small, number_below}
@@ -93,13 +93,13 @@ cons_tail e = cc
 pub end_within : (plan : List ℕ) (start at : ℕ) (bytes : List ℕ) → Walking plan start at bytes → at + length bytes + 1 < 2 ^ 64
 end_within plan start at bytes w =
     let g = w.going in
-    let t = line_turn w.text at g.left bytes g.here g.inside w.before w.stands in
+    let t = line_first w.text at g.left bytes g.here g.inside w.before w.stands in
     omega (arith, t.within, w.fits)
 
 module _ (old : List ℕ) (start at : ℕ) (bytes : List ℕ) (told : Option Define) (tells : Tells bytes told) where
   -- the line at the place
-  turn : (text : List ℕ) (ls : List FormLine) (g : Going ls text old start at) → at < length text → bytes ≡ first_line (from text at) → Turn text at g.left bytes
-  turn text ls g b e = line_turn text at g.left bytes g.here g.inside b e
+  turn : (text : List ℕ) (ls : List FormLine) (g : Going ls text old start at) → at < length text → bytes ≡ first_line (from text at) → First text at g.left bytes
+  turn text ls g b e = line_first text at g.left bytes g.here g.inside b e
 
   module _ (other : told ≡ None) (ending : Option Ending) (ends : Ends bytes ending) where
     -- it draws
@@ -116,7 +116,7 @@ module _ (old : List ℕ) (start at : ℕ) (bytes : List ℕ) (told : Option Def
     draws rest (P.draw d) more is s i = record { draw = d; more = more; is = is; long = ap length s; ending_is = ends d s i; shown = shown_range d i }
     draws rest (P.define d) more is s i = let defines = tells (P.define d) s i in cc
 
-    drawn : {text : List ℕ} {rest : List FormLine} (t : Turn text at rest bytes) → Draws rest
+    drawn : {text : List ℕ} {rest : List FormLine} (t : First text at rest bytes) → Draws rest
     drawn t = draws _ t.line t.more t.is t.stands t.range
 
     pub drawn_room : Walking old start at bytes → DrawnRoom old ending (at + length bytes)
@@ -177,7 +177,7 @@ module _ (old : List ℕ) (start at : ℕ) (bytes : List ℕ) (told : Option Def
         let same : Some define ≡ Some (define_of d) = sym is ∙ tells (P.define d) s i in
         record { what = d; more = more; is_one = q; long = ap length s; told_so = cc; small = define_small d i }
 
-    defined : {text : List ℕ} {rest : List FormLine} (t : Turn text at rest bytes) → Defines rest
+    defined : {text : List ℕ} {rest : List FormLine} (t : First text at rest bytes) → Defines rest
     defined t = defines _ t.line t.more t.is t.stands t.range
 
     -- a definition more is one that the form asks for

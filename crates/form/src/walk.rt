@@ -24,7 +24,7 @@ pub struct Line<'a> {
 }
 
 // The lines of a text from a place on, one after the other.
-#[derive(Debug, Drop)]
+#[derive(Clone, Copy, Debug, PartialEq, Eq)]
 pub struct Lines<'a> {
     pub text: &'a [u8],
     pub at: usize,

@@ -31,24 +31,30 @@ pub enum Kind {
 pub fn kind_of(first: u8, second: u8) -> Kind
     ensures { result ≡ kind_of first second }
 {
-    match (first, second) {
-        (b'N', _) => Kind::New,
-        (b'?', _) => Kind::Ask,
-        (b'Q', _) => Kind::Size,
-        (b'Z', _) => Kind::Direction,
-        (b'A', _) => Kind::Text,
-        (b'X', _) => Kind::Frame,
-        (b'C', _) => Kind::Counting,
-        (b'V', _) => Kind::Varying,
-        (b'P', _) => Kind::Print,
-        (b'L', b'O') => Kind::Black,
-        (b'L', b'E') => Kind::Flip,
-        (b'L', b'W') => Kind::White,
-        (b'F', b'E') => Kind::Finish,
-        (b'F', b'I') => Kind::Inform,
-        (b'F', b'S') => Kind::Start,
-        (b'F', b'R') => Kind::Recall,
-        (b'F', b'K') => Kind::Delete,
+    match first {
+        b'N' => Kind::New,
+        b'?' => Kind::Ask,
+        b'Q' => Kind::Size,
+        b'Z' => Kind::Direction,
+        b'A' => Kind::Text,
+        b'X' => Kind::Frame,
+        b'C' => Kind::Counting,
+        b'V' => Kind::Varying,
+        b'P' => Kind::Print,
+        b'L' => match second {
+            b'O' => Kind::Black,
+            b'E' => Kind::Flip,
+            b'W' => Kind::White,
+            _ => Kind::Unknown,
+        },
+        b'F' => match second {
+            b'E' => Kind::Finish,
+            b'I' => Kind::Inform,
+            b'S' => Kind::Start,
+            b'R' => Kind::Recall,
+            b'K' => Kind::Delete,
+            _ => Kind::Unknown,
+        },
         _ => Kind::Unknown,
     }
 }

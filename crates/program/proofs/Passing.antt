@@ -1,6 +1,6 @@
 -- A piece of input, fill by fill, and the reads one after the other.
 use Prim.Native.Nat.{ℕ, ◌+◌, ◌-◌, ◌*◌, ◌^◌, ◌≤◌, ◌<◌}
-use mathlib.Core.Path.{◌≡◌, refl, ◌∙◌}
+use mathlib.Core.Path.{◌≡◌, refl, ◌∙◌, ap}
 use mathlib.Core.Bool.{Bool, true, false, false≢true}
 use mathlib.Core.List.{List}
 use native.Mathlib.Omega.{arith}
@@ -13,9 +13,10 @@ use Rattle.paper.specs.Program.{to_take}
 use Rattle.paper.proofs.Alone.{begin_alone}
 use Rattle.paper.proofs.Test.{either}
 use Rattle.text.specs.Place.{from}
-use Rattle.std.proofs.Common.{Result, Ok, Err}
-use Rattle.streams.specs.Streams.{bytes_of, Writes}
+use Rattle.std.proofs.Common.{Option, Some, Result, Ok, Err}
+use Rattle.streams.specs.Streams.{bytes_of, Reads, Writes}
 use Rattle.streams.specs.declared.errors.Errno.{Errno}
+use Rattle.streams.proofs.Telling.{of_bytes}
 use Rattle.call.specs.Call.{Memory}
 use Rattle.tablets.specs.Calls.{Reached, Begins}
 use Rattle.tablets.proofs.Leading.{begins_on}
@@ -161,7 +162,7 @@ failed_some n written error e h = let some : Writes n (Err error) = rw e at h in
 abbrev last : Run → Passed
 last run = record { run = run; next = 0; going = false }
 
-module _ (run : Run) (memory : Memory) (waiting : List ℕ) (read : Result ℕ Errno) (input : List ℕ) where
+module _ (run : Run) (memory : Memory) (waiting : List ℕ) (read : Result (Option ℕ) Errno) (input : List ℕ) where
   -- a read brought nothing
   obeys_none : bytes_of read ≡ 0 → Stands (desk_of run memory waiting) → Obeys (desk_of run memory waiting) read input (desk_of run memory waiting) 0 false
   unfolding from
@@ -183,10 +184,12 @@ module _ (run : Run) (memory : Memory) (waiting : List ℕ) (read : Result ℕ E
   obeys_nothing r e t is = rw is (obeys_none e t)
 
 -- or it brought some bytes
-pub obeys_bytes : (d : Desk) (read : Result ℕ Errno) (input : List ℕ) (n : ℕ) (e : Desk) (next : ℕ) (going : Bool) → read ≡ Ok n → (n ≡ 0 → ⊥) → Passes d (take n input) e next going
+pub obeys_bytes : (d : Desk) (read : Result (Option ℕ) Errno) (input : List ℕ) (n : ℕ) (e : Desk) (next : ℕ) (going : Bool) → read ≡ Ok (Some n) → Reads input read → Passes d (take n input) e next going
     → Obeys d read input e next going
-obeys_bytes d read input n e next going is some p =
-    record { passes = rw is p; stops = λ z. absurd (some (rw is at z)) }
+obeys_bytes d read input n e next going is reads p =
+    let some = of_bytes input reads is in
+    let count : bytes_of read ≡ n = ap bytes_of is in
+    record { passes = rw is p; stops = λ z. absurd (omega (arith, some.0, count, z)) }
 
 -- they can be counted
 pub bytes_counted : (d : Desk) (input : List ℕ) (n : ℕ) → StandsAt d (length input) → StandsAt d (length (take n input))
@@ -251,7 +254,7 @@ module _ {m : Memory} {input₀ out₀ err₀ : List ℕ} {d : Desk} {input out 
   reading_room = (omega (arith, t.out_size, t.starts.out_room), omega (arith, t.err_size, t.starts.err_room))
 
   -- a read more
-  pub reading_turns : (e : Desk) (new new_out new_err : List ℕ) (read : Result ℕ Errno) (next : ℕ) (going : Bool) → Obeys d read new e next going → Sized d.memory e.memory
+  pub reading_turns : (e : Desk) (new new_out new_err : List ℕ) (read : Result (Option ℕ) Errno) (next : ℕ) (going : Bool) → Obeys d read new e next going → Sized d.memory e.memory
       → length new ≡ length input → length new_out ≡ length out → length new_err ≡ length err → Reading m input₀ out₀ err₀ e new new_out new_err (turns + 1)
   reading_turns e new new_out new_err read next going o sizes i j k =
       record {

@@ -1,5 +1,5 @@
 -- What the loops that read and write promise: what was to be said and where the run stands, and nothing of the streams that it went to.
-use Rattle.std.specs.Prelude.{ℕ, ◌+◌, ◌^◌, ◌≤◌, ◌<◌, ◌≡◌, Bool, true, false, List, length, take, Result}
+use Rattle.std.specs.Prelude.{ℕ, ◌+◌, ◌^◌, ◌≤◌, ◌<◌, ◌≡◌, Bool, true, false, List, length, take, Option, Result}
 use Rattle.text.specs.Place.{from}
 use Rattle.streams.specs.declared.errors.Errno.{Errno}
 use Rattle.streams.specs.Streams.{bytes_of}
@@ -24,7 +24,7 @@ pub record Passes (d : Desk) (input : List ℕ) (e : Desk) (next : ℕ) (going :
   pub speaks : going ≡ false → 0 < length input → (s : Standing) (a : At d s) → 0 < length (leads s a).said.out
 
 -- `obey`: they are passed on, and the run ends where there are none
-pub record Obeys (d : Desk) (read : Result ℕ Errno) (input : List ℕ) (e : Desk) (next : ℕ) (going : Bool) : Type 0 where
+pub record Obeys (d : Desk) (read : Result (Option ℕ) Errno) (input : List ℕ) (e : Desk) (next : ℕ) (going : Bool) : Type 0 where
   pub passes : Passes d (take (bytes_of read) input) e next going
   pub stops : bytes_of read ≡ 0 → going ≡ false
 

@@ -65,7 +65,7 @@ impl Session<'_> {
     pub fn worth(&self) -> &[usize]
         ensures { result.now ≡ self.now.values.now }
     {
-        self.values
+        &self.values[..]
     }
 
     // It holds nothing.

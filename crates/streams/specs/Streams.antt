@@ -35,9 +35,10 @@ unfoldable pub tried : Result ℕ Error → Result (Option ℕ) Errno
 tried (Ok n) = Ok (Some n)
 tried (Err e) = if passing (errno_of e) then Ok None else Err (errno_of e)
 
--- what a read may come to that leaves these bytes in the buffer: none of them where the input has ended
-abbrev pub Reads : List ℕ → Result ℕ Errno → Type 0
-Reads bytes (Ok n) = IsPrefixLen n bytes
+-- what a read may come to that leaves these bytes in the buffer: some of them, or none where the input has ended
+abbrev pub Reads : List ℕ → Result (Option ℕ) Errno → Type 0
+Reads bytes (Ok (Some n)) = (0 < n) × IsPrefixLen n bytes
+Reads bytes (Ok None) = Unit {0}
 Reads bytes (Err error) = passing error ≡ false
 
 -- what a write may come to that takes some of a buffer of this length
@@ -51,6 +52,7 @@ Writes length (Ok _) = Unit {0}
 Writes length (Err error) = (0 < length) × (passing error ≡ false)
 
 -- the bytes that a read brought
-abbrev pub bytes_of : Result ℕ Errno → ℕ
-bytes_of (Ok n) = n
+abbrev pub bytes_of : Result (Option ℕ) Errno → ℕ
+bytes_of (Ok (Some n)) = n
+bytes_of (Ok None) = 0
 bytes_of (Err error) = 0

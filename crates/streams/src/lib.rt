@@ -23,8 +23,10 @@ use std::rt::Clock;
 // nothing: at a pause of a millisecond each, that is over four thousand years.
 const CALLS: u64 = 0x8000_0000_0000;
 
-// What is said of a stream where none of them got on: an error of input or output.
-const GIVEN_UP: Errno = Errno::EIO;
+// What is said of a stream where none of them got on: of an input, and of an output.
+const UNREAD: Errno = Errno::EIO;
+
+const UNWRITTEN: Errno = Errno::EIO;
 
 // What a call came to: how many bytes it moved, or none where it is to be made again, for which a pause comes first where it would have
 // blocked.
@@ -47,20 +49,23 @@ fn told(clock: &impl Clock, got: io::Result<usize>) -> Result<Option<usize>, Err
     Err(error)
 }
 
-// Reads once, as soon as there is something to read: how many bytes stand at the start of the buffer, and 0 where the input has ended.
+// Reads once, as soon as there is something to read: how many bytes stand at the start of the buffer, at least one, or none where the
+// input has ended.
 pub fn read_some(
     clock: &impl Clock,
     from: &mut impl io::Read,
     buf: &mut [u8],
-) -> Result<usize, Errno>
+) -> Result<Option<usize>, Errno>
     ensures { Reads buf.new result }
 {
     for _ in 0..CALLS {
-        if let Some(n) = told(clock, from.read(buf))? {
-            return Ok(n);
+        match told(clock, from.read(buf))? {
+            Some(0) => return Ok(None),
+            Some(n) => return Ok(Some(n)),
+            None => {}
         }
     }
-    Err(GIVEN_UP)
+    Err(UNREAD)
 }
 
 // Writes once, as soon as a byte is taken. A write that takes no byte and says no error counts as one that would block.
@@ -74,7 +79,7 @@ fn write_some(clock: &impl Clock, to: &mut impl io::Write, buf: &[u8]) -> Result
             None => {}
         }
     }
-    Err(GIVEN_UP)
+    Err(UNWRITTEN)
 }
 
 // Writes all of buf.

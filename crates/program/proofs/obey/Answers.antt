@@ -1,21 +1,22 @@
 -- By what the read came to.
-use mathlib.Core.Path.{◌∙◌, ap}
+use mathlib.Core.Path.{◌≡◌, ◌∙◌, ap}
+use Rattle.std.proofs.Common.{Some, None, Ok}
 use Rattle.streams.specs.Streams.{bytes_of}
 use Rattle.program.proofs.Passing.{bytes_counted, obeys_bytes, obeys_nothing}
 use Rattle.program.proofs.obey.Goals as goal
 
 pub pass-requires : goal.pass-requires
-pass-requires g c = record { stands_at = bytes_counted _ c.args.input.now c.in-Ok.n c.requires.stands_at; in_bounds = c.requires.in_bounds }
+pass-requires g c = record { stands_at = bytes_counted _ c.args.input.now c.in-Ok-Some.n c.requires.stands_at; in_bounds = c.requires.in_bounds }
 
-pub returns-in-Ok-eq0 : goal.returns-in-Ok-eq0
-returns-in-Ok-eq0 g c =
-    let none = rw c.in-Ok-eq0.field-0-is at c.in-Ok-eq0.field-0-test in
-    obeys_nothing _ _ _ _ _ _ (ap bytes_of c.in-Ok-eq0.is ∙ none) c.requires.stands_at.stands c.ended.ensures
+pub returns-in-Ok-None : goal.returns-in-Ok-None
+returns-in-Ok-None g c =
+    let none : c.in-Ok-None.field-0 ≡ None = rw c.in-Ok-None.is at c.in-Ok-None.field-0-is in
+    obeys_nothing _ _ _ _ _ _ (ap bytes_of (c.in-Ok-None.is ∙ ap Ok none)) c.requires.stands_at.stands c.ended.ensures
 
-pub returns-in-Ok : goal.returns-in-Ok
-returns-in-Ok g c =
-    let some = rw c.in-Ok.is at c.in-Ok.n-test.1 in
-    obeys_bytes _ _ _ _ _ _ _ c.in-Ok.is some c.pass.ensures
+pub returns-in-Ok-Some : goal.returns-in-Ok-Some
+returns-in-Ok-Some g c =
+    let some : c.in-Ok-Some.field-0 ≡ Some c.in-Ok-Some.n = rw c.in-Ok-Some.is at c.in-Ok-Some.field-0-is in
+    obeys_bytes _ _ _ _ _ _ _ (c.in-Ok-Some.is ∙ ap Ok some) c.requires.reads c.pass.ensures
 
 pub returns-in-Err : goal.returns-in-Err
 returns-in-Err g c = obeys_nothing _ _ _ _ _ _ (ap bytes_of c.in-Err.is) c.requires.stands_at.stands c.ended-in-Err.ensures

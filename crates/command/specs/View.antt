@@ -1,5 +1,5 @@
 -- The code's records in the paper's words: a command record with the line that it was read from is a reading of that line.
-use Rattle.std.specs.Prelude.{ℕ, ◌-◌, ◌<◌, ◌≡◌, true, List, length, Result, Ok, Err}
+use Rattle.std.specs.Prelude.{ℕ, ◌-◌, ◌<◌, ◌≡◌, true, List, length}
 use Rattle.paper.specs.Byte.{every}
 use Rattle.paper.specs.Line.{quote}
 use Rattle.paper.specs.Command as P
@@ -74,32 +74,28 @@ bar_of pen b = P.keep (P.draw (P.bar pen b.x b.y b.w b.t))
 unfoldable pub put_of : List ℕ → Put → P.Command
 put_of s p = P.keep (P.draw (P.put (setting_of p.setting) (content_of s p.content)))
 
--- a record, its strings read off the line
-unfoldable pub command_of : List ℕ → Command → P.Command
-command_of s M.Empty = P.empty
-command_of s M.New = P.new
-command_of s M.Finish = P.file P.finish
-command_of s M.Inform = P.file P.inform
-command_of s M.Ask = P.ask
-command_of s (M.Size p₁ p₂) = P.keep (P.draw (P.size p₁ p₂))
-command_of s (M.Direction d) = P.keep (P.draw (P.direction d))
-command_of s (M.Text put) = put_of s put
-command_of s (M.Black b) = bar_of P.black b
-command_of s (M.Flip b) = bar_of P.flip b
-command_of s (M.White b) = bar_of P.white b
-command_of s (M.Frame x₁ y₁ t x₂ y₂) = P.keep (P.draw (P.frame x₁ y₁ t x₂ y₂))
-command_of s (M.Counting n len step prompt) =
-    P.keep (P.define (P.counting n len 78 (step_of step) (text_in s prompt)))
-command_of s (M.Varying n len prompt) = P.keep (P.define (P.varying n len 78 (text_in s prompt)))
-command_of s (M.Start name) = P.file (P.start (text_in s name))
-command_of s (M.Recall name) = P.file (P.recall (text_in s name))
-command_of s (M.Delete name) = P.file (P.delete (text_in s name))
-command_of s (M.Print sets copies) = P.print sets copies
-
--- what a line was read to, a record or a refusal, as a reading
-unfoldable pub view_of : List ℕ → Result Command Refusal → Read.Reading
-view_of s (Ok c) = Read.command (command_of s c)
-view_of s (Err why) = Read.unread (refusal_of why)
+-- a record, its strings read off the line, as a reading
+unfoldable pub view_of : List ℕ → Command → Read.Reading
+view_of s M.Empty = Read.command P.empty
+view_of s M.New = Read.command P.new
+view_of s M.Finish = Read.command (P.file P.finish)
+view_of s M.Inform = Read.command (P.file P.inform)
+view_of s M.Ask = Read.command P.ask
+view_of s (M.Size p₁ p₂) = Read.command (P.keep (P.draw (P.size p₁ p₂)))
+view_of s (M.Direction d) = Read.command (P.keep (P.draw (P.direction d)))
+view_of s (M.Text put) = Read.command (put_of s put)
+view_of s (M.Black b) = Read.command (bar_of P.black b)
+view_of s (M.Flip b) = Read.command (bar_of P.flip b)
+view_of s (M.White b) = Read.command (bar_of P.white b)
+view_of s (M.Frame x₁ y₁ t x₂ y₂) = Read.command (P.keep (P.draw (P.frame x₁ y₁ t x₂ y₂)))
+view_of s (M.Counting n len step prompt) =
+    Read.command (P.keep (P.define (P.counting n len 78 (step_of step) (text_in s prompt))))
+view_of s (M.Varying n len prompt) = Read.command (P.keep (P.define (P.varying n len 78 (text_in s prompt))))
+view_of s (M.Start name) = Read.command (P.file (P.start (text_in s name)))
+view_of s (M.Recall name) = Read.command (P.file (P.recall (text_in s name)))
+view_of s (M.Delete name) = Read.command (P.file (P.delete (text_in s name)))
+view_of s (M.Print sets copies) = Read.command (P.print sets copies)
+view_of s (M.Refused why) = Read.unread (refusal_of why)
 
 -- a string holds in a line: it closes with the quote at its end, and has the length that it says
 pub record Holds (s : List ℕ) (string : Span) : Type 0 where
@@ -134,27 +130,23 @@ ContentStands s (C.TextCounter string n) = Standing s string
 ContentStands s (C.TextVariable string n) = Standing s string
 
 -- the strings of a record stand in the line
-unfoldable pub CommandStands : List ℕ → Command → Type 0
-CommandStands s M.Empty = Unit
-CommandStands s M.New = Unit
-CommandStands s M.Finish = Unit
-CommandStands s M.Inform = Unit
-CommandStands s M.Ask = Unit
-CommandStands s (M.Size p₁ p₂) = Unit
-CommandStands s (M.Direction d) = Unit
-CommandStands s (M.Text put) = ContentStands s put.content
-CommandStands s (M.Black b) = Unit
-CommandStands s (M.Flip b) = Unit
-CommandStands s (M.White b) = Unit
-CommandStands s (M.Frame x₁ y₁ t x₂ y₂) = Unit
-CommandStands s (M.Counting n len step prompt) = Standing s prompt
-CommandStands s (M.Varying n len prompt) = Standing s prompt
-CommandStands s (M.Start name) = Standing s name
-CommandStands s (M.Recall name) = Standing s name
-CommandStands s (M.Delete name) = Standing s name
-CommandStands s (M.Print sets copies) = Unit
-
--- so do those of what a line was read to
-unfoldable pub Stand : List ℕ → Result Command Refusal → Type 0
-Stand s (Ok c) = CommandStands s c
-Stand s (Err why) = Unit
+unfoldable pub Stand : List ℕ → Command → Type 0
+Stand s M.Empty = Unit
+Stand s M.New = Unit
+Stand s M.Finish = Unit
+Stand s M.Inform = Unit
+Stand s M.Ask = Unit
+Stand s (M.Size p₁ p₂) = Unit
+Stand s (M.Direction d) = Unit
+Stand s (M.Text put) = ContentStands s put.content
+Stand s (M.Black b) = Unit
+Stand s (M.Flip b) = Unit
+Stand s (M.White b) = Unit
+Stand s (M.Frame x₁ y₁ t x₂ y₂) = Unit
+Stand s (M.Counting n len step prompt) = Standing s prompt
+Stand s (M.Varying n len prompt) = Standing s prompt
+Stand s (M.Start name) = Standing s name
+Stand s (M.Recall name) = Standing s name
+Stand s (M.Delete name) = Standing s name
+Stand s (M.Print sets copies) = Unit
+Stand s (M.Refused why) = Unit

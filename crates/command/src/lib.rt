@@ -75,7 +75,8 @@ pub enum Step {
     Down { n: usize },
 }
 
-// A command record. A line is read to one, or to a refusal.
+// A command record, or the refusal of a line.
+// Kept: the list of forms by place names one enum with a case a command and a refusal case.
 #[derive(Clone, Copy, Debug, PartialEq, Eq)]
 pub enum Command {
     Empty,
@@ -132,6 +133,9 @@ pub enum Command {
     Print {
         sets: usize,
         copies: usize,
+    },
+    Refused {
+        why: Refusal,
     },
 }
 

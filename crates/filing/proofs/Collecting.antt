@@ -13,8 +13,7 @@ use borrow.Author.Tests.{leb-true, ltb-true, le-leb, not-true, not-false}
 use Rattle.std.specs.Prelude as Std
 use Rattle.std.specs.Prelude.{Result, Ok, Err}
 use Rattle.paper.specs.Command as C
-use Rattle.paper.specs.Read.{command}
-use Rattle.paper.specs.Command.{Define, FormLine, all, keep, file, finish, in_range}
+use Rattle.paper.specs.Command.{Define, FormLine, all, keep, file, finish}
 use Rattle.paper.specs.Form.{Form, text_of, within_limits, asked, rules, first_broken, unsound_at, has_room, stored}
 use Rattle.paper.specs.Write.{line_text, normal, lines_text}
 use Rattle.paper.specs.State.{all_in, Draft, Storable}
@@ -25,12 +24,12 @@ use Rattle.paper.proofs.RoundTrip.{read_in_range}
 use Rattle.text.specs.Write.{Writes, padded}
 use Rattle.text.proofs.Padded.{padded_length, padded_write}
 use Rattle.text.proofs.Written.{writes_then, writes_take}
-use Rattle.command.specs.View.{width, refusal_of, command_of, view_of}
+use Rattle.command.specs.View.{width, refusal_of, view_of}
 use Rattle.command.specs.declared.Command.{Command}
 use Rattle.command.specs.declared.Refusal.{Refusal}
 use Rattle.command.specs.declared.Refusal.TheVariants as W
 use Rattle.line.specs.Given.{IsRead}
-use Rattle.normal.specs.Normal.{command_held, record_held}
+use Rattle.normal.specs.Normal.{record_held, readable, reading_text}
 use Rattle.normal.proofs.RoundTrips.{stand_held}
 use Rattle.form.specs.Sound.{line_number}
 use Rattle.form.specs.Noting.{Plannable, Plans}
@@ -302,20 +301,15 @@ text_whole session k = let f = (kept_used session k).text in ap length f.is ∙ 
 pub text_short : (session : Session) → Kept session → session.held.drafted ≤ 1024
 text_short session k = let f = (kept_used session k).text in omega (arith, f.counts, f.room)
 
--- the command of a line for a form
-keeps_command : (s : List ℕ) (c : Command) (k : Keeps s c) → command_of s c ≡ keep k.line
-unfolding view_of
-keeps_command s c k = let e : command (command_of s c) ≡ command (keep k.line) = k.is in cc
-
 -- a record that was read can be written
-pub reads_written : (s : List ℕ) (c : Command) → IsRead s (Ok c) → Keeps s c → (command_held s c ≡ true) × (in_range width (command_of s c) ≡ true)
-unfolding record_held
-reads_written s c h k = (stand_held s (Ok c) h.stand, rw (keeps_command s c k) (read_in_range width s (keep k.line) (sym h.view ∙ k.is)))
+pub reads_written : (s : List ℕ) (c : Command) → IsRead s c → Keeps s c → (record_held s c ≡ true) × (readable (view_of s c) ≡ true)
+unfolding readable
+reads_written s c h k = (stand_held s c h.stand, rw k.is (read_in_range width s (keep k.line) (sym h.view ∙ k.is)))
 
 -- what is written of it is the line's text
-keeps_text : (s : List ℕ) (c : Command) (k : Keeps s c) → normal (command_of s c) ≡ line_text k.line
-unfolding normal
-keeps_text s c k = rw (keeps_command s c k)
+keeps_text : (s : List ℕ) (c : Command) (k : Keeps s c) → reading_text (view_of s c) ≡ line_text k.line
+unfolding reading_text normal
+keeps_text s c k = rw k.is
 
 -- the text with one line more
 text_more : (ls : List FormLine) (l : FormLine) → text_of (ls ++ (l ∷ [])) ≡ text_of ls ++ (line_text l ++ (10 ∷ []))
@@ -351,7 +345,7 @@ minds_overfull session lines l answer next m over r =
 
 -- a form with this line would have too many bytes
 pub keeps_long : (session : Session) (lines : ℕ) (s : List ℕ) (c : Command) (old out : List ℕ) (n : ℕ) (answer : Result ℕ Refusal) (next : Session) (k : Keeps s c) → session.held.mode ≡ M.Collecting lines
-    → Writes old 0 (normal (command_of s c)) out n → 1023 < session.held.drafted + n → Refuses W.Overfull session answer next → Minds session (keep k.line) answer next
+    → Writes old 0 (reading_text (view_of s c)) out n → 1023 < session.held.drafted + n → Refuses W.Overfull session answer next → Minds session (keep k.line) answer next
 keeps_long session lines s c old out n answer next k m w h r =
     minds_overfull session lines k.line answer next m
     (λ fs st d x. omega (arith, draft_size session fs st d, w.ends, ap length (keeps_text s c k), size_more d.lines k.line, x.bytes))
@@ -392,7 +386,7 @@ more_held session fs n st lines l mid new end size d m p q h =
 -- a line within the limits is kept
 pub keeps_more : (session : Session) (lines : ℕ) (s : List ℕ) (c : Command) (old out : List ℕ) (n : ℕ) (mid : List ℕ) (end : ℕ) (new : List ℕ) (size : ℕ) (k : Keeps s c)
     → session.held.mode ≡ M.Collecting lines
-    → Writes old 0 (normal (command_of s c)) out n → session.held.drafted + n ≤ 1023 → lines ≤ 39
+    → Writes old 0 (reading_text (view_of s c)) out n → session.held.drafted + n ≤ 1023 → lines ≤ 39
     → Writes session.text session.held.drafted (take n out) mid end → Writes mid end (10 ∷ []) new size
     → Minds session (keep k.line) (Ok 0) (session_of (longer session.held lines size) session.name new session.answers session.values)
 unfolding obey P.in_collecting P.collected within_limits after_command
@@ -403,7 +397,7 @@ keeps_more session lines s c old out n mid end new size k m w h few p q =
     next = session_of (longer session.held lines size) session.name new session.answers session.values
 
     line : take n out ≡ line_text k.line
-    line = writes_take old 0 (normal (command_of s c)) out n w ∙ keeps_text s c k
+    line = writes_take old 0 (reading_text (view_of s c)) out n w ∙ keeps_text s c k
 
     go : (shelf : Shelf) (b : List ℕ) (a : At session shelf) → InDraft session a.forms a.state
         → Does (obey (length b) a.forms a.state (keep k.line)) (after_command a.number a.forms a.state (keep k.line)) b b (Ok 0) next shelf

@@ -23,7 +23,7 @@ const LINES: usize = 39;
 fn collect(session: &mut Session<'_>, s: &[u8], c: Command, lines: usize) -> Answer
     requires kept { Kept (lent session.old) }
     requires mode_value { session.old.held.mode ≡ M.Collecting lines }
-    requires read { IsRead s.now (Ok c) }
+    requires read { IsRead s.now c }
     requires keeps { Keeps s.now c }
     ensures same { SameLoan session.old session.new }
     ensures value { (k : Keeps s.now c) → Minds (lent session.old) (C.keep k.line) result (lent session.new) }
@@ -46,7 +46,7 @@ fn collect(session: &mut Session<'_>, s: &[u8], c: Command, lines: usize) -> Ans
 // A line for a form: kept, or dropped where the form is spoiled.
 pub fn keep(session: &mut Session<'_>, s: &[u8], c: Command) -> Answer
     requires kept { Kept (lent session.old) }
-    requires read { IsRead s.now (Ok c) }
+    requires read { IsRead s.now c }
     requires keeps { Keeps s.now c }
     ensures same { SameLoan session.old session.new }
     ensures value { (k : Keeps s.now c) → Minds (lent session.old) (C.keep k.line) result (lent session.new) }

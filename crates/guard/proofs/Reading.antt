@@ -11,7 +11,7 @@ use types.Run.{OneOf, hit, miss}
 use lib.ListN.{length}
 use borrow.Author.Tests.{lt-ltb}
 use Rattle.std.specs.Prelude as Std
-use Rattle.std.specs.Prelude.{Result, Ok, Err, None}
+use Rattle.std.specs.Prelude.{Result, Ok, None}
 use Rattle.paper.specs.Line.{long}
 use Rattle.paper.specs.Command as C
 use Rattle.paper.specs.Read.{command, unread, name_line, read}
@@ -23,7 +23,7 @@ use Rattle.paper.proofs.RoundTrip.{read_in_range}
 use Rattle.paper.proofs.Test.{held}
 use Rattle.text.specs.Place.{byte_at, from}
 use Rattle.text.specs.declared.read.Span.{Span}
-use Rattle.command.specs.View.{width, text_in, Holds, put_of, bar_of, command_of, view_of, CommandStands, Stand}
+use Rattle.command.specs.View.{width, text_in, Holds, put_of, bar_of, view_of, Stand}
 use Rattle.command.specs.declared.Refusal.{Refusal}
 use Rattle.command.specs.declared.Command.{Command}
 use Rattle.command.specs.declared.Command.TheVariants as L
@@ -39,27 +39,25 @@ use Rattle.guard.specs.Guarded.{Frees, Guarding, Bars, Guards, Led}
 use Rattle.guard.specs.declared.Leaving.{Leaving}
 
 -- what was read is in range
-read_range : (s : List ℕ) (r : Result Command Refusal) (p : C.Command) → IsRead s r → view_of s r ≡ command p → C.in_range width p ≡ true
+read_range : (s : List ℕ) (r : Command) (p : C.Command) → IsRead s r → view_of s r ≡ command p → C.in_range width p ≡ true
 read_range s r p i v = read_in_range width s p (sym i.view ∙ v)
 
 -- the name in an `FS` line
-pub names_start : (s : List ℕ) (r : Result Command Refusal) (c : Command) (name : Span) → IsRead s r → r ≡ Ok c → c ≡ L.Start name → Named s name
-unfolding view_of command_of Stand CommandStands C.in_range C.ranges C.filing_ranges
-names_start s r c name i o f =
-    let e : r ≡ Ok (L.Start name) = cc in
-    let stand : Stand s (Ok (L.Start name)) = rw e at i.stand in
-    record { holds = stand.holds; named = (held _ (read_range s r (C.file (C.start (text_in s name))) i (ap (view_of s) e))).0.0 }
+pub names_start : (s : List ℕ) (c : Command) (name : Span) → IsRead s c → c ≡ L.Start name → Named s name
+unfolding view_of Stand C.in_range C.ranges C.filing_ranges
+names_start s c name i e =
+    let stand : Stand s (L.Start name) = rw e at i.stand in
+    record { holds = stand.holds; named = (held _ (read_range s c (C.file (C.start (text_in s name))) i (ap (view_of s) e))).0.0 }
 
 -- and in an `FK` line
-pub names_delete : (s : List ℕ) (r : Result Command Refusal) (c : Command) (name : Span) → IsRead s r → r ≡ Ok c → c ≡ L.Delete name → Starred s name
-unfolding view_of command_of Stand CommandStands C.in_range C.ranges C.filing_ranges
-names_delete s r c name i o f =
-    let e : r ≡ Ok (L.Delete name) = cc in
-    let stand : Stand s (Ok (L.Delete name)) = rw e at i.stand in
-    record { holds = stand.holds; named = (held _ (read_range s r (C.file (C.delete (text_in s name))) i (ap (view_of s) e))).0.0 }
+pub names_delete : (s : List ℕ) (c : Command) (name : Span) → IsRead s c → c ≡ L.Delete name → Starred s name
+unfolding view_of Stand C.in_range C.ranges C.filing_ranges
+names_delete s c name i e =
+    let stand : Stand s (L.Delete name) = rw e at i.stand in
+    record { holds = stand.holds; named = (held _ (read_range s c (C.file (C.delete (text_in s name))) i (ap (view_of s) e))).0.0 }
 
-pub holds_delete : (s : List ℕ) (r : Result Command Refusal) (c : Command) (name : Span) → IsRead s r → r ≡ Ok c → c ≡ L.Delete name → Holds s name
-holds_delete s r c name i o f = (names_delete s r c name i o f).holds
+pub holds_delete : (s : List ℕ) (c : Command) (name : Span) → IsRead s c → c ≡ L.Delete name → Holds s name
+holds_delete s c name i e = (names_delete s c name i e).holds
 
 -- the lines that others leave alone: those that are none to the store, `FE`, `FI` and `FR`
 none_frees : (c : Class) (t : ℕ) → Frees c t none
@@ -84,71 +82,57 @@ frees_by c t (some (C.recall name)) starts deletes = recall_frees c t name
 frees_by c t (some (C.delete name)) starts deletes = deletes name refl
 
 -- what reads as `FS` was read to it
-reads_start : (s : List ℕ) (r : Result Command Refusal) (name : List ℕ) → filing_read (view_of s r) ≡ some (C.start name) → ((string : Span) → r ≡ Ok (L.Start string) → ⊥) → ⊥
-unfolding filing_read view_of command_of put_of bar_of
-reads_start s (Ok L.Empty) name e h = some_none e refl
-reads_start s (Ok L.New) name e h = some_none e refl
-reads_start s (Ok L.Finish) name e h = cc
-reads_start s (Ok L.Inform) name e h = cc
-reads_start s (Ok L.Ask) name e h = some_none e refl
-reads_start s (Ok (L.Size p₁ p₂)) name e h = some_none e refl
-reads_start s (Ok (L.Direction d)) name e h = some_none e refl
-reads_start s (Ok (L.Text put)) name e h = some_none e refl
-reads_start s (Ok (L.Black b)) name e h = some_none e refl
-reads_start s (Ok (L.Flip b)) name e h = some_none e refl
-reads_start s (Ok (L.White b)) name e h = some_none e refl
-reads_start s (Ok (L.Frame x₁ y₁ p x₂ y₂)) name e h = some_none e refl
-reads_start s (Ok (L.Counting n len step prompt)) name e h = some_none e refl
-reads_start s (Ok (L.Varying n len prompt)) name e h = some_none e refl
-reads_start s (Ok (L.Start string)) name e h = h string refl
-reads_start s (Ok (L.Recall string)) name e h = cc
-reads_start s (Ok (L.Delete string)) name e h = cc
-reads_start s (Ok (L.Print sets copies)) name e h = some_none e refl
-reads_start s (Err why) name e h = some_none e refl
+reads_start : (s : List ℕ) (r : Command) (name : List ℕ) → filing_read (view_of s r) ≡ some (C.start name) → ((string : Span) → r ≡ L.Start string → ⊥) → ⊥
+unfolding filing_read view_of put_of bar_of
+reads_start s L.Empty name e h = some_none e refl
+reads_start s L.New name e h = some_none e refl
+reads_start s L.Finish name e h = cc
+reads_start s L.Inform name e h = cc
+reads_start s L.Ask name e h = some_none e refl
+reads_start s (L.Size p₁ p₂) name e h = some_none e refl
+reads_start s (L.Direction d) name e h = some_none e refl
+reads_start s (L.Text put) name e h = some_none e refl
+reads_start s (L.Black b) name e h = some_none e refl
+reads_start s (L.Flip b) name e h = some_none e refl
+reads_start s (L.White b) name e h = some_none e refl
+reads_start s (L.Frame x₁ y₁ p x₂ y₂) name e h = some_none e refl
+reads_start s (L.Counting n len step prompt) name e h = some_none e refl
+reads_start s (L.Varying n len prompt) name e h = some_none e refl
+reads_start s (L.Start string) name e h = h string refl
+reads_start s (L.Recall string) name e h = cc
+reads_start s (L.Delete string) name e h = cc
+reads_start s (L.Print sets copies) name e h = some_none e refl
+reads_start s (L.Refused why) name e h = some_none e refl
 
 -- and what reads as `FK`
-reads_delete : (s : List ℕ) (r : Result Command Refusal) (name : List ℕ) → filing_read (view_of s r) ≡ some (C.delete name) → ((string : Span) → r ≡ Ok (L.Delete string) → ⊥) → ⊥
-unfolding filing_read view_of command_of put_of bar_of
-reads_delete s (Ok L.Empty) name e h = some_none e refl
-reads_delete s (Ok L.New) name e h = some_none e refl
-reads_delete s (Ok L.Finish) name e h = cc
-reads_delete s (Ok L.Inform) name e h = cc
-reads_delete s (Ok L.Ask) name e h = some_none e refl
-reads_delete s (Ok (L.Size p₁ p₂)) name e h = some_none e refl
-reads_delete s (Ok (L.Direction d)) name e h = some_none e refl
-reads_delete s (Ok (L.Text put)) name e h = some_none e refl
-reads_delete s (Ok (L.Black b)) name e h = some_none e refl
-reads_delete s (Ok (L.Flip b)) name e h = some_none e refl
-reads_delete s (Ok (L.White b)) name e h = some_none e refl
-reads_delete s (Ok (L.Frame x₁ y₁ p x₂ y₂)) name e h = some_none e refl
-reads_delete s (Ok (L.Counting n len step prompt)) name e h = some_none e refl
-reads_delete s (Ok (L.Varying n len prompt)) name e h = some_none e refl
-reads_delete s (Ok (L.Start string)) name e h = cc
-reads_delete s (Ok (L.Recall string)) name e h = cc
-reads_delete s (Ok (L.Delete string)) name e h = h string refl
-reads_delete s (Ok (L.Print sets copies)) name e h = some_none e refl
-reads_delete s (Err why) name e h = some_none e refl
-
--- another record is not read as these
-pub other_start : (r : Result Command Refusal) (c : Command) → r ≡ Ok c → ((name : Span) → c ≡ L.Start name → ⊥) → (name : Span) → r ≡ Ok (L.Start name) → ⊥
-other_start r c o h name e = let f : c ≡ L.Start name = cc in h name f
-
-pub other_delete : (r : Result Command Refusal) (c : Command) → r ≡ Ok c → ((name : Span) → c ≡ L.Delete name → ⊥) → (name : Span) → r ≡ Ok (L.Delete name) → ⊥
-other_delete r c o h name e = let f : c ≡ L.Delete name = cc in h name f
-
--- nor is what was not read
-pub no_start : (r : Result Command Refusal) → ((c : Command) → r ≡ Ok c → ⊥) → (name : Span) → r ≡ Ok (L.Start name) → ⊥
-no_start r h name = h (L.Start name)
-
-pub no_delete : (r : Result Command Refusal) → ((c : Command) → r ≡ Ok c → ⊥) → (name : Span) → r ≡ Ok (L.Delete name) → ⊥
-no_delete r h name = h (L.Delete name)
+reads_delete : (s : List ℕ) (r : Command) (name : List ℕ) → filing_read (view_of s r) ≡ some (C.delete name) → ((string : Span) → r ≡ L.Delete string → ⊥) → ⊥
+unfolding filing_read view_of put_of bar_of
+reads_delete s L.Empty name e h = some_none e refl
+reads_delete s L.New name e h = some_none e refl
+reads_delete s L.Finish name e h = cc
+reads_delete s L.Inform name e h = cc
+reads_delete s L.Ask name e h = some_none e refl
+reads_delete s (L.Size p₁ p₂) name e h = some_none e refl
+reads_delete s (L.Direction d) name e h = some_none e refl
+reads_delete s (L.Text put) name e h = some_none e refl
+reads_delete s (L.Black b) name e h = some_none e refl
+reads_delete s (L.Flip b) name e h = some_none e refl
+reads_delete s (L.White b) name e h = some_none e refl
+reads_delete s (L.Frame x₁ y₁ p x₂ y₂) name e h = some_none e refl
+reads_delete s (L.Counting n len step prompt) name e h = some_none e refl
+reads_delete s (L.Varying n len prompt) name e h = some_none e refl
+reads_delete s (L.Start string) name e h = cc
+reads_delete s (L.Recall string) name e h = cc
+reads_delete s (L.Delete string) name e h = h string refl
+reads_delete s (L.Print sets copies) name e h = some_none e refl
+reads_delete s (L.Refused why) name e h = some_none e refl
 
 -- what an `FS` line and what an `FK` line is read as
-pub start_read : (s : List ℕ) (r : Result Command Refusal) → Led s (code "S") → Gives s (name_line (filing E.Start) (from s 2)) r → IsRead s r
+pub start_read : (s : List ℕ) (r : Command) → Led s (code "S") → Gives s (name_line (filing E.Start) (from s 2)) r → IsRead s r
 unfolding filing letter_of
 start_read s r l g = read_errand s E.Start [] r l.short l.shown (record { first = l.first; second = l.second }) g
 
-pub delete_read : (s : List ℕ) (r : Result Command Refusal) → Led s (code "K") → Gives s (name_line (filing E.Delete) (from s 2)) r → IsRead s r
+pub delete_read : (s : List ℕ) (r : Command) → Led s (code "K") → Gives s (name_line (filing E.Delete) (from s 2)) r → IsRead s r
 unfolding filing letter_of
 delete_read s r l g = read_errand s E.Delete [] r l.short l.shown (record { first = l.first; second = l.second }) g
 
@@ -163,13 +147,13 @@ delete_starts s name l e = let there = read_leads s (C.start name) e in omega (a
 
 module _ (store : Store) (held : List ℕ) (t : ℕ) (s : List ℕ) where
   -- `FS` and `FK` were read
-  pub guards_start : (c : Result Command Refusal) (line : Command) (name : Span) (r : Result (Std.Option Leaving) Refusal) → IsRead s c → c ≡ Ok line → line ≡ L.Start name → Bars store held t (some (C.start (text_in s name))) r → Guards store held t s r
-  unfolding filing_read view_of command_of
-  guards_start c line name r i o f b = rw (sym i.view ∙ ap (view_of s) (o ∙ ap Ok f)) b
+  pub guards_start : (c : Command) (name : Span) (r : Result (Std.Option Leaving) Refusal) → IsRead s c → c ≡ L.Start name → Bars store held t (some (C.start (text_in s name))) r → Guards store held t s r
+  unfolding filing_read view_of
+  guards_start c name r i e b = rw (sym i.view ∙ ap (view_of s) e) b
 
-  pub guards_delete : (c : Result Command Refusal) (line : Command) (name : Span) (r : Result (Std.Option Leaving) Refusal) → IsRead s c → c ≡ Ok line → line ≡ L.Delete name → Bars store held t (some (C.delete (text_in s name))) r → Guards store held t s r
-  unfolding filing_read view_of command_of
-  guards_delete c line name r i o f b = rw (sym i.view ∙ ap (view_of s) (o ∙ ap Ok f)) b
+  pub guards_delete : (c : Command) (name : Span) (r : Result (Std.Option Leaving) Refusal) → IsRead s c → c ≡ L.Delete name → Bars store held t (some (C.delete (text_in s name))) r → Guards store held t s r
+  unfolding filing_read view_of
+  guards_delete c name r i e b = rw (sym i.view ∙ ap (view_of s) e) b
 
   -- of other lines nothing is made, and so nothing of a line from what is made of `FS` and of `FK`
   guards_free : ((name : List ℕ) → filing_read (read width s) ≡ some (C.start name) → Bars store held t (some (C.start name)) (Ok None))
@@ -181,13 +165,13 @@ module _ (store : Store) (held : List ℕ) (t : ℕ) (s : List ℕ) where
       }
 
   -- an `FS` line that is not read, and an `FK` line
-  pub start_unread : (r : Result Command Refusal) → Led s (code "S") → IsRead s r → ((name : Span) → r ≡ Ok (L.Start name) → ⊥) → Guards store held t s (Ok None)
+  pub start_unread : (r : Command) → Led s (code "S") → IsRead s r → ((name : Span) → r ≡ L.Start name → ⊥) → Guards store held t s (Ok None)
   start_unread r l i h =
       guards_free
       (λ name e. absurd (reads_start s r name (ap filing_read i.view ∙ e) h))
       (λ name e. absurd (start_deletes s name l e))
 
-  pub delete_unread : (r : Result Command Refusal) → Led s (code "K") → IsRead s r → ((name : Span) → r ≡ Ok (L.Delete name) → ⊥) → Guards store held t s (Ok None)
+  pub delete_unread : (r : Command) → Led s (code "K") → IsRead s r → ((name : Span) → r ≡ L.Delete name → ⊥) → Guards store held t s (Ok None)
   delete_unread r l i h =
       guards_free
       (λ name e. absurd (delete_starts s name l e))

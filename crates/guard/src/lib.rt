@@ -78,10 +78,7 @@ fn guard_start(
     ensures { Guards (store_of filed all.now names.now texts.now lens.now) held.now t s.now result }
 {
     if is_beside(held, t, COLLECTING, SPOILED, FIRST, FIRST) {
-        let Ok(command) = name_line(s, Errand::Start) else {
-            return Ok(None);
-        };
-        let Command::Start { name } = command else {
+        let Command::Start { name } = name_line(s, Errand::Start) else {
             return Ok(None);
         };
         return match find_copied(filed, all, names, texts, lens, s, name) {
@@ -137,10 +134,7 @@ fn guard_delete(
     ensures { Guards (store_of filed all.now names.now texts.now lens.now) held.now t s.now result }
 {
     if is_beside(held, t, OPENED, PRINTING, FIRST, LAST) {
-        let Ok(command) = name_line(s, Errand::Delete) else {
-            return Ok(None);
-        };
-        let Command::Delete { name } = command else {
+        let Command::Delete { name } = name_line(s, Errand::Delete) else {
             return Ok(None);
         };
         if is_star(s, name) {

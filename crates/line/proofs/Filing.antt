@@ -6,7 +6,6 @@ use mathlib.Core.Path.{◌≡◌, refl, sym}
 use mathlib.Core.Bool.{true}
 use mathlib.Core.List.{List, [], ◌∷◌}
 use mathlib.Core.Option.{none, some}
-use Rattle.std.specs.Prelude.{Result}
 use native.Mathlib.Omega.{arith}
 use lib.ListN.{length}
 use Rattle.paper.specs.Byte.{bytes, when◌then◌else◌, every}
@@ -22,7 +21,6 @@ use Rattle.text.specs.Place.{byte_at, from}
 use Rattle.text.proofs.Place.{stands}
 use Rattle.command.specs.View.{width}
 use Rattle.command.specs.declared.Command as L
-use Rattle.command.specs.declared.Refusal.{Refusal}
 use Rattle.line.specs.Given.{Gives, Judges, IsRead}
 use Rattle.line.specs.Family.{filing}
 use Rattle.line.specs.Kind.{kind_of, filing_kind, shape_by}
@@ -222,13 +220,13 @@ read_leads s f =
     λ _. told s f
 
 -- a line with the letters of a line to the store is what its kind says
-kind_read : (s : List ℕ) (f : Filing) (k : Kind) (r : Result L.Command Refusal) → length s ≤ 256 → every is_shown s ≡ true → Leads s f → k ≡ kind_of (code "F") (letter_of f) → Judges s (shape_by s k) r → IsRead s r
+kind_read : (s : List ℕ) (f : Filing) (k : Kind) (r : L.Command) → length s ≤ 256 → every is_shown s ≡ true → Leads s f → k ≡ kind_of (code "F") (letter_of f) → Judges s (shape_by s k) r → IsRead s r
 kind_read s f k r h e l q j =
     let filled : 0 < length s = stands s 0 (code "F") (sym l.first) (omega arith) in
     read_shape s k r h e filled (rw (l.first, l.second) q) j
 
 -- so one with a name is what the name behind its letters says
-pub read_errand : (s : List ℕ) (errand : Errand) (name : List ℕ) (r : Result L.Command Refusal) → length s ≤ 256 → every is_shown s ≡ true → Leads s (filing errand name) → Gives s (name_line (filing errand) (from s 2)) r → IsRead s r
+pub read_errand : (s : List ℕ) (errand : Errand) (name : List ℕ) (r : L.Command) → length s ≤ 256 → every is_shown s ≡ true → Leads s (filing errand name) → Gives s (name_line (filing errand) (from s 2)) r → IsRead s r
 unfolding filing letter_of kind_of filing_kind shape_by when◌then◌else◌
 read_errand s E.Start name r h e l j = kind_read s (start name) K.Start r h e l refl j
 read_errand s E.Recall name r h e l j = kind_read s (recall name) K.Recall r h e l refl j

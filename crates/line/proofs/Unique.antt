@@ -1,7 +1,7 @@
--- A line is read to one record or one refusal: any two that the promise of reading allows are equal, the places of their strings included.
+-- A line is read as one record: any two that the promise of reading allows are equal, the places of their strings included.
 use mathlib.Core.Path.{◌≡◌, refl, sym, ◌∙◌, ap}
 use mathlib.Core.List.{List, [], ◌∷◌}
-use Rattle.std.specs.Prelude.{Result, Ok, Err}
+use Rattle.std.specs.Prelude.{Result, Err}
 use Prim.Native.Nat.{ℕ, zero, suc, ◌+◌, ◌-◌, ◌<◌}
 use native.Mathlib.Omega.{arith}
 use lib.ListN.{length}
@@ -17,7 +17,7 @@ use Rattle.text.specs.Place.{byte_at, from}
 use Rattle.text.specs.declared.read.Span.{Span}
 use Rattle.text.proofs.Place.{stands}
 use Rattle.text.proofs.Quote.{length_from}
-use Rattle.command.specs.View.{width, refusal_of, text_in, step_of, content_of, setting_of, bar_of, put_of, command_of, view_of, Standing, ContentStands, CommandStands, Stand}
+use Rattle.command.specs.View.{width, refusal_of, text_in, step_of, content_of, setting_of, bar_of, put_of, view_of, Standing, ContentStands, Stand}
 use Rattle.command.specs.Answer.{Reports}
 use Rattle.command.specs.declared.Refusal.{Refusal}
 use Rattle.command.specs.declared.Content.{Content}
@@ -100,10 +100,10 @@ record_for a (P.file (P.delete t)) = M.Delete a
 record_for a P.ask = M.Ask
 record_for a (P.print n c) = M.Print n c
 
--- what was read is the one of a reading: the record with the string behind the first quote, or a refusal with that word
-abbrev Tells : List ℕ → Read.Reading → Result Command Refusal → Type 0
-Tells s (Read.command c) r = r ≡ Ok (record_for (first_span s) c)
-Tells s (Read.unread x) r = (why : Refusal) × (refusal_of why ≡ x) × (r ≡ Err why)
+-- a record is the one of a reading: with the string behind the first quote, or a refusal with that word
+abbrev Tells : List ℕ → Read.Reading → Command → Type 0
+Tells s (Read.command c) r = r ≡ record_for (first_span s) c
+Tells s (Read.unread x) r = (why : Refusal) × (refusal_of why ≡ x) × (r ≡ M.Refused why)
 
 -- a step is the one for its view
 step_tells : (by : Step) → by ≡ step_for (step_of by)
@@ -121,8 +121,8 @@ content_tells s (C.TextCounter string n) h k = ap (λ a. C.TextCounter a n) (spa
 content_tells s (C.TextVariable string n) h k = ap (λ a. C.TextVariable a n) (span_first s string h k)
 
 -- a record whose string stands in the line is the one of its view
-record_tells : (s : List ℕ) (c : Command) → LoneReading (quotes s) (Read.command (command_of s c)) → CommandStands s c → c ≡ record_for (first_span s) (command_of s c)
-unfolding record_for command_of put_of bar_of setting_of CommandStands
+record_tells : (s : List ℕ) (r : Command) → LoneReading (quotes s) (view_of s r) → Stand s r → Tells s (view_of s r) r
+unfolding record_for view_of put_of bar_of setting_of Stand
 record_tells s M.Empty h k = refl
 record_tells s M.New h k = refl
 record_tells s M.Finish h k = refl
@@ -142,12 +142,7 @@ record_tells s (M.Start name) h k = ap M.Start (span_first s name h k)
 record_tells s (M.Recall name) h k = ap M.Recall (span_first s name h k)
 record_tells s (M.Delete name) h k = ap M.Delete (span_first s name h k)
 record_tells s (M.Print sets copies) h k = refl
-
--- so what was read is the one of its view
-view_tells : (s : List ℕ) (r : Result Command Refusal) → LoneReading (quotes s) (view_of s r) → Stand s r → Tells s (view_of s r) r
-unfolding view_of Stand
-view_tells s (Ok c) h k = ap Ok (record_tells s c h k)
-view_tells s (Err why) h k = (why, refl, refl)
+record_tells s (M.Refused why) h k = (why, refl, refl)
 
 -- a refusal has its word alone
 refusal_one : (why why' : Refusal) → refusal_of why ≡ refusal_of why' → why ≡ why'
@@ -156,15 +151,15 @@ refusal_one why why' e =
     let same : ◌≡◌ {A = Result ℕ Refusal} (Err why) (Err why') = (meets_one (R.refused (refusal_of why)) [] [] [] _ _ (record { reports = refl; buffer = refl }) (record { reports = sym e; buffer = refl })).1 in
     cc
 
--- a reading has one
-tells_one : (s : List ℕ) (g : Read.Reading) (r r' : Result Command Refusal) → Tells s g r → Tells s g r' → r ≡ r'
+-- a reading has one record
+tells_one : (s : List ℕ) (g : Read.Reading) (r r' : Command) → Tells s g r → Tells s g r' → r ≡ r'
 tells_one s (Read.command c) r r' p q = p ∙ sym q
-tells_one s (Read.unread x) r r' p q = p.2 ∙ ap Err (refusal_one p.0 q.0 (p.1 ∙ sym q.1)) ∙ sym q.2
+tells_one s (Read.unread x) r r' p q = p.2 ∙ ap M.Refused (refusal_one p.0 q.0 (p.1 ∙ sym q.1)) ∙ sym q.2
 
--- what a line was read to is the one of its reading
-read_tells : (s : List ℕ) (r : Result Command Refusal) → IsRead s r → Tells s (Read.read width s) r
-read_tells s r h = rw (← h.view) (view_tells s r (rw h.view (read_lone width s)) h.stand)
+-- the record of a line is the one of its reading
+read_tells : (s : List ℕ) (r : Command) → IsRead s r → Tells s (Read.read width s) r
+read_tells s r h = rw (← h.view) (record_tells s r (rw h.view (read_lone width s)) h.stand)
 
--- two that a line is read to are one
-pub read_unique : (s : List ℕ) (r r' : Result Command Refusal) → IsRead s r → IsRead s r' → r ≡ r'
+-- two records that a line is read as are one
+pub read_unique : (s : List ℕ) (r r' : Command) → IsRead s r → IsRead s r' → r ≡ r'
 read_unique s r r' h h' = tells_one s (Read.read width s) r r' (read_tells s r h) (read_tells s r' h')

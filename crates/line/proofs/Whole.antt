@@ -6,7 +6,6 @@ use Prim.Native.Nat.{ℕ, ◌≤◌, ◌<◌}
 use native.Mathlib.Omega.{arith}
 use lib.ListN.{length}
 use borrow.Author.Tests.{lt-ltb, le-ltb}
-use Rattle.std.specs.Prelude.{Result}
 use Rattle.paper.specs.Byte.{when◌then◌else◌, every, any}
 use Rattle.paper.specs.Line.{long, control}
 use Rattle.paper.specs.Command as P
@@ -18,7 +17,6 @@ use Rattle.paper.proofs.Text.{clear_between, clear_control}
 use Rattle.text.specs.Place.{byte_at}
 use Rattle.command.specs.View.{width}
 use Rattle.command.specs.declared.Command.{Command}
-use Rattle.command.specs.declared.Refusal.{Refusal}
 use Rattle.line.specs.Given.{Judges, IsRead}
 use Rattle.line.specs.Kind.{kind_of, shape_by}
 use Rattle.line.specs.declared.kind.Kind.{Kind}
@@ -51,6 +49,6 @@ read_empty [] h = refl
 read_empty (b ∷ s) h = absurd (omega arith)
 
 -- a line with a byte is what the shape of its kind is judged as
-pub read_shape : (s : List ℕ) (k : Kind) (r : Result Command Refusal) → length s ≤ 256 → every is_shown s ≡ true → 0 < length s → k ≡ kind_of (byte_at s 0) (byte_at s 1) → Judges s (shape_by s k) r → IsRead s r
+pub read_shape : (s : List ℕ) (k : Kind) (r : Command) → length s ≤ 256 → every is_shown s ≡ true → 0 < length s → k ≡ kind_of (byte_at s 0) (byte_at s 1) → Judges s (shape_by s k) r → IsRead s r
 read_shape s k r h e f q j =
     record { view = j.view ∙ sym (read_shown s h e ∙ rw (by_kind s f, q)); stand = j.stand }

@@ -14,7 +14,7 @@ drawn P.black bar = M.Black bar
 drawn P.flip bar = M.Flip bar
 drawn P.white bar = M.White bar
 
--- what a line with a bar was read to, under a pen
+-- what the parts of a line with a bar give, under a pen
 unfoldable pub under : P.Pen → Result Bar Refusal → Result Command Refusal
 under pen (Ok bar) = Ok (drawn pen bar)
 under pen (Err why) = Err why

@@ -7,7 +7,7 @@ use denote.Enum.Declared.{tag_of}
 use types.Run.{OneOf, hit, miss}
 use lib.ListN.{length}
 use borrow.Author.Tests.{lt-ltb}
-use Rattle.std.specs.Prelude.{Result, Ok, Err}
+use Rattle.std.specs.Prelude.{Result, Ok}
 use Rattle.paper.specs.Line.{long, control}
 use Rattle.paper.specs.Command as C
 use Rattle.paper.specs.Form.{Form}
@@ -18,7 +18,7 @@ use Rattle.paper.proofs.Law.{if_true, if_false}
 use Rattle.paper.proofs.Test.{held}
 use Rattle.paper.proofs.RoundTrip.{read_in_range}
 use Rattle.paper.proofs.Invariant.{print_in}
-use Rattle.command.specs.View.{width, refusal_of, text_in, put_of, bar_of, command_of, view_of, CommandStands, Stand}
+use Rattle.command.specs.View.{width, refusal_of, text_in, put_of, bar_of, view_of, Stand}
 use Rattle.command.specs.declared.Refusal.{Refusal}
 use Rattle.command.specs.declared.Refusal.TheVariants as W
 use Rattle.command.specs.declared.Command.{Command}
@@ -56,7 +56,7 @@ resets session next h e =
     }
 
 -- what was read is in range
-read_range : (s : List ℕ) (c : Command) (p : C.Command) → IsRead s (Ok c) → view_of s (Ok c) ≡ command p → C.in_range width p ≡ true
+read_range : (s : List ℕ) (c : Command) (p : C.Command) → IsRead s c → view_of s c ≡ command p → C.in_range width p ≡ true
 read_range s c p i v = read_in_range width s p (sym i.view ∙ v)
 
 -- the empty line
@@ -71,39 +71,39 @@ empties room fs (P.ready ls given) = refl
 empties room fs (P.printing ls given n c i) = refl
 
 -- the name in an `FS` line
-pub names_start : (s : List ℕ) (c : Command) (name : Span) → IsRead s (Ok c) → c ≡ L.Start name → Named s name
-unfolding view_of command_of Stand CommandStands C.in_range C.ranges C.filing_ranges
+pub names_start : (s : List ℕ) (c : Command) (name : Span) → IsRead s c → c ≡ L.Start name → Named s name
+unfolding view_of Stand C.in_range C.ranges C.filing_ranges
 names_start s c name i e =
-    let stand : Stand s (Ok (L.Start name)) = rw e at i.stand in
-    record { holds = stand.holds; named = (held _ (read_range s c (C.file (C.start (text_in s name))) i (ap (λ x. view_of s (Ok x)) e))).0.0 }
+    let stand : Stand s (L.Start name) = rw e at i.stand in
+    record { holds = stand.holds; named = (held _ (read_range s c (C.file (C.start (text_in s name))) i (ap (view_of s) e))).0.0 }
 
 -- in an `FR` line
-pub names_recall : (s : List ℕ) (c : Command) (name : Span) → IsRead s (Ok c) → c ≡ L.Recall name → Named s name
-unfolding view_of command_of Stand CommandStands C.in_range C.ranges C.filing_ranges
+pub names_recall : (s : List ℕ) (c : Command) (name : Span) → IsRead s c → c ≡ L.Recall name → Named s name
+unfolding view_of Stand C.in_range C.ranges C.filing_ranges
 names_recall s c name i e =
-    let stand : Stand s (Ok (L.Recall name)) = rw e at i.stand in
-    record { holds = stand.holds; named = (held _ (read_range s c (C.file (C.recall (text_in s name))) i (ap (λ x. view_of s (Ok x)) e))).0.0 }
+    let stand : Stand s (L.Recall name) = rw e at i.stand in
+    record { holds = stand.holds; named = (held _ (read_range s c (C.file (C.recall (text_in s name))) i (ap (view_of s) e))).0.0 }
 
 -- and in an `FK` line
-pub names_delete : (s : List ℕ) (c : Command) (name : Span) → IsRead s (Ok c) → c ≡ L.Delete name → Starred s name
-unfolding view_of command_of Stand CommandStands C.in_range C.ranges C.filing_ranges
+pub names_delete : (s : List ℕ) (c : Command) (name : Span) → IsRead s c → c ≡ L.Delete name → Starred s name
+unfolding view_of Stand C.in_range C.ranges C.filing_ranges
 names_delete s c name i e =
-    let stand : Stand s (Ok (L.Delete name)) = rw e at i.stand in
-    record { holds = stand.holds; named = (held _ (read_range s c (C.file (C.delete (text_in s name))) i (ap (λ x. view_of s (Ok x)) e))).0.0 }
+    let stand : Stand s (L.Delete name) = rw e at i.stand in
+    record { holds = stand.holds; named = (held _ (read_range s c (C.file (C.delete (text_in s name))) i (ap (view_of s) e))).0.0 }
 
 -- the sets of a `P` line: some
-pub prints_some : (s : List ℕ) (c : Command) (sets copies : ℕ) → IsRead s (Ok c) → c ≡ L.Print sets copies → 1 ≤ sets
-unfolding view_of command_of
-prints_some s c sets copies i e = (print_in width sets copies (read_range s c (C.print sets copies) i (ap (λ x. view_of s (Ok x)) e))).0
+pub prints_some : (s : List ℕ) (c : Command) (sets copies : ℕ) → IsRead s c → c ≡ L.Print sets copies → 1 ≤ sets
+unfolding view_of
+prints_some s c sets copies i e = (print_in width sets copies (read_range s c (C.print sets copies) i (ap (view_of s) e))).0
 
 -- and not too many
-pub prints_few : (s : List ℕ) (c : Command) (sets copies : ℕ) → IsRead s (Ok c) → c ≡ L.Print sets copies → sets ≤ 65535
-unfolding view_of command_of
-prints_few s c sets copies i e = (print_in width sets copies (read_range s c (C.print sets copies) i (ap (λ x. view_of s (Ok x)) e))).1
+pub prints_few : (s : List ℕ) (c : Command) (sets copies : ℕ) → IsRead s c → c ≡ L.Print sets copies → sets ≤ 65535
+unfolding view_of
+prints_few s c sets copies i e = (print_in width sets copies (read_range s c (C.print sets copies) i (ap (view_of s) e))).1
 
 -- every other line is one for a form
 keeps_tagged : (s : List ℕ) (c : Command) → OneOf (5 ∷ 6 ∷ 7 ∷ 8 ∷ 9 ∷ 10 ∷ 11 ∷ 12 ∷ 13 ∷ []) (tag_of Tag.the_type c) → Keeps s c
-unfolding view_of command_of put_of bar_of
+unfolding view_of put_of bar_of
 keeps_tagged s L.Empty h = absurd (miss (5 ∷ 6 ∷ 7 ∷ 8 ∷ 9 ∷ 10 ∷ 11 ∷ 12 ∷ 13 ∷ []) 0 tt h)
 keeps_tagged s L.New h = absurd (miss (5 ∷ 6 ∷ 7 ∷ 8 ∷ 9 ∷ 10 ∷ 11 ∷ 12 ∷ 13 ∷ []) 1 tt h)
 keeps_tagged s L.Finish h = absurd (miss (5 ∷ 6 ∷ 7 ∷ 8 ∷ 9 ∷ 10 ∷ 11 ∷ 12 ∷ 13 ∷ []) 2 tt h)
@@ -122,6 +122,7 @@ keeps_tagged s (L.Start name) h = absurd (miss (5 ∷ 6 ∷ 7 ∷ 8 ∷ 9 ∷ 10
 keeps_tagged s (L.Recall name) h = absurd (miss (5 ∷ 6 ∷ 7 ∷ 8 ∷ 9 ∷ 10 ∷ 11 ∷ 12 ∷ 13 ∷ []) 15 tt h)
 keeps_tagged s (L.Delete name) h = absurd (miss (5 ∷ 6 ∷ 7 ∷ 8 ∷ 9 ∷ 10 ∷ 11 ∷ 12 ∷ 13 ∷ []) 16 tt h)
 keeps_tagged s (L.Print sets copies) h = absurd (miss (5 ∷ 6 ∷ 7 ∷ 8 ∷ 9 ∷ 10 ∷ 11 ∷ 12 ∷ 13 ∷ []) 17 tt h)
+keeps_tagged s (L.Refused why) h = absurd (miss (5 ∷ 6 ∷ 7 ∷ 8 ∷ 9 ∷ 10 ∷ 11 ∷ 12 ∷ 13 ∷ []) 18 tt h)
 
 -- a line that is none of the others
 pub record Others (c : Command) : Type 0 where
@@ -134,6 +135,7 @@ pub record Others (c : Command) : Type 0 where
   pub no_delete : (name : Span) → c ≡ L.Delete name → ⊥
   pub no_ask : c ≡ L.Ask → ⊥
   pub no_print : (sets : ℕ) (copies : ℕ) → c ≡ L.Print sets copies → ⊥
+  pub no_refused : (why : Refusal) → c ≡ L.Refused why → ⊥
 
 one_kept : (c : Command) → Others c → OneOf (5 ∷ 6 ∷ 7 ∷ 8 ∷ 9 ∷ 10 ∷ 11 ∷ 12 ∷ 13 ∷ []) (tag_of Tag.the_type c)
 one_kept L.Empty h = absurd (h.no_empty refl)
@@ -154,6 +156,7 @@ one_kept (L.Start name) h = absurd (h.no_start name refl)
 one_kept (L.Recall name) h = absurd (h.no_recall name refl)
 one_kept (L.Delete name) h = absurd (h.no_delete name refl)
 one_kept (L.Print sets copies) h = absurd (h.no_print sets copies refl)
+one_kept (L.Refused why) h = absurd (h.no_refused why refl)
 
 pub keeps_line : (s : List ℕ) (c : Command) → Others c → Keeps s c
 keeps_line s c h = keeps_tagged s c (one_kept c h)
@@ -188,17 +191,17 @@ module _ (session : Session) (shelf : Shelf) (s old new : List ℕ) (answer : Re
       heeds a (P.printing ls given n c i) e = refl
 
   -- the command that it says is obeyed
-  heeds : (c : Command) (p : C.Command) → IsRead s (Ok c) → view_of s (Ok c) ≡ command p → Obeys session shelf p old new answer next more → Hears session shelf s old new answer next more
+  heeds : (c : Command) (p : C.Command) → IsRead s c → view_of s c ≡ command p → Obeys session shelf p old new answer next more → Hears session shelf s old new answer next more
   unfolding P.obeyed after_reading
   heeds c p i v o = hears_read λ a. rw (sym i.view ∙ v) (o.obeys a)
 
 -- or it is refused
-pub heeds_refused : (session : Session) (shelf : Shelf) (s b : List ℕ) (answer : Result ℕ Refusal) (next : Session) → NotAnswering session.held.mode → (why : Refusal) → IsRead s (Err why)
+pub heeds_refused : (session : Session) (shelf : Shelf) (s b : List ℕ) (answer : Result ℕ Refusal) (next : Session) → NotAnswering session.held.mode → (c : Command) (why : Refusal) → IsRead s c → c ≡ L.Refused why
     → Refuses why session answer next → Hears session shelf s b b answer next shelf
 unfolding P.obeyed view_of after_reading
-heeds_refused session shelf s b answer next free why i r =
+heeds_refused session shelf s b answer next free c why i e r =
     hears_read session shelf s b b answer next shelf free λ a.
-    rw (sym i.view) (does_refuse why session answer next r shelf a.forms a.number a.state b a.here a.there)
+    rw (sym i.view ∙ ap (view_of s) e) (does_refuse why session answer next r shelf a.forms a.number a.state b a.here a.there)
 
 -- a line that is not read
 unread_heard : (s : List ℕ) (r : R.Refusal) → read width s ≡ unread r → ((fs : List Form) (ls : List C.FormLine) (given : List (List ℕ)) → P.in_answering fs ls given s ≡ P.refuse r fs (P.answering ls given))
@@ -241,41 +244,41 @@ unfolding read P.in_answering refusal_of
 hears_control session shelf s b answer next n y r =
     hears_unread session shelf s b answer next W.ControlByte (if_false _ _ _ n ∙ if_true _ _ _ y) (λ fs ls given. if_false _ _ _ n ∙ if_true _ _ _ y) r
 
-module _ (session : Session) (shelf : Shelf) (s : List ℕ) (c : Command) (i : IsRead s (Ok c)) (old new : List ℕ) (answer : Result ℕ Refusal) (next : Session) (more : Shelf) (free : NotAnswering session.held.mode) where
+module _ (session : Session) (shelf : Shelf) (s : List ℕ) (c : Command) (i : IsRead s c) (old new : List ℕ) (answer : Result ℕ Refusal) (next : Session) (more : Shelf) (free : NotAnswering session.held.mode) where
   -- `FS`
   pub heeds_start : (name : Span) → c ≡ L.Start name → Obeys session shelf (C.file (C.start (text_in s name))) old new answer next more → Hears session shelf s old new answer next more
-  unfolding view_of command_of
-  heeds_start name e = heeds session shelf s old new answer next more free c _ i (ap (λ x. view_of s (Ok x)) e)
+  unfolding view_of
+  heeds_start name e = heeds session shelf s old new answer next more free c _ i (ap (view_of s) e)
 
   -- `FE`
   pub heeds_finish : c ≡ L.Finish → Obeys session shelf (C.file C.finish) old new answer next more → Hears session shelf s old new answer next more
-  unfolding view_of command_of
-  heeds_finish e = heeds session shelf s old new answer next more free c _ i (ap (λ x. view_of s (Ok x)) e)
+  unfolding view_of
+  heeds_finish e = heeds session shelf s old new answer next more free c _ i (ap (view_of s) e)
 
   -- `FI`
   pub heeds_inform : c ≡ L.Inform → Obeys session shelf (C.file C.inform) old new answer next more → Hears session shelf s old new answer next more
-  unfolding view_of command_of
-  heeds_inform e = heeds session shelf s old new answer next more free c _ i (ap (λ x. view_of s (Ok x)) e)
+  unfolding view_of
+  heeds_inform e = heeds session shelf s old new answer next more free c _ i (ap (view_of s) e)
 
   -- `FR`
   pub heeds_recall : (name : Span) → c ≡ L.Recall name → Obeys session shelf (C.file (C.recall (text_in s name))) old new answer next more → Hears session shelf s old new answer next more
-  unfolding view_of command_of
-  heeds_recall name e = heeds session shelf s old new answer next more free c _ i (ap (λ x. view_of s (Ok x)) e)
+  unfolding view_of
+  heeds_recall name e = heeds session shelf s old new answer next more free c _ i (ap (view_of s) e)
 
   -- `FK`
   pub heeds_delete : (name : Span) → c ≡ L.Delete name → Obeys session shelf (C.file (C.delete (text_in s name))) old new answer next more → Hears session shelf s old new answer next more
-  unfolding view_of command_of
-  heeds_delete name e = heeds session shelf s old new answer next more free c _ i (ap (λ x. view_of s (Ok x)) e)
+  unfolding view_of
+  heeds_delete name e = heeds session shelf s old new answer next more free c _ i (ap (view_of s) e)
 
   -- `?`
   pub heeds_ask : c ≡ L.Ask → Obeys session shelf C.ask old new answer next more → Hears session shelf s old new answer next more
-  unfolding view_of command_of
-  heeds_ask e = heeds session shelf s old new answer next more free c _ i (ap (λ x. view_of s (Ok x)) e)
+  unfolding view_of
+  heeds_ask e = heeds session shelf s old new answer next more free c _ i (ap (view_of s) e)
 
   -- `P`
   pub heeds_print : (sets copies : ℕ) → c ≡ L.Print sets copies → Obeys session shelf (C.print sets copies) old new answer next more → Hears session shelf s old new answer next more
-  unfolding view_of command_of
-  heeds_print sets copies e = heeds session shelf s old new answer next more free c _ i (ap (λ x. view_of s (Ok x)) e)
+  unfolding view_of
+  heeds_print sets copies e = heeds session shelf s old new answer next more free c _ i (ap (view_of s) e)
 
   -- a line for a form
   pub heeds_keep : (k : Keeps s c) → Obeys session shelf (C.keep k.line) old new answer next more → Hears session shelf s old new answer next more
@@ -283,10 +286,10 @@ module _ (session : Session) (shelf : Shelf) (s : List ℕ) (c : Command) (i : I
 
   -- `N`
   pub heeds_new : c ≡ L.New → Obeys session shelf C.new old new answer next more → Hears session shelf s old new answer next more
-  unfolding view_of command_of
-  heeds_new e = heeds session shelf s old new answer next more free c _ i (ap (λ x. view_of s (Ok x)) e)
+  unfolding view_of
+  heeds_new e = heeds session shelf s old new answer next more free c _ i (ap (view_of s) e)
 
   -- the empty line
   pub heeds_empty : c ≡ L.Empty → Obeys session shelf C.empty old new answer next more → Hears session shelf s old new answer next more
-  unfolding view_of command_of
-  heeds_empty e = heeds session shelf s old new answer next more free c _ i (ap (λ x. view_of s (Ok x)) e)
+  unfolding view_of
+  heeds_empty e = heeds session shelf s old new answer next more free c _ i (ap (view_of s) e)

@@ -47,7 +47,7 @@ fn obey(
 ) -> Answer
     requires at { At (lent session.old) (shelf_of filed.old all.old names.old texts.old lens.old plans.old) }
     requires not_answering { NotAnswering session.old.held.mode }
-    requires read { IsRead s.now (Ok c) }
+    requires read { IsRead s.now c }
     ensures same { SameLoan session.old session.new }
     ensures value { Hears (lent session.old) (shelf_of filed.old all.old names.old texts.old lens.old plans.old) s.now reply.old reply.new result (lent session.new) (shelf_of filed.new all.new names.new texts.new lens.new plans.new) }
 {
@@ -63,6 +63,7 @@ fn obey(
         Command::Delete { name } => delete(session, filed, all, names, texts, lens, plans, s, name),
         Command::Ask => ask(session),
         Command::Print { sets, copies } => print(session, plans, sets, copies),
+        Command::Refused { why } => session.refuse(why),
         _ => keep(session, s, c),
     }
 }
@@ -88,8 +89,6 @@ pub fn listen(
     if LINE < s.len() {
         return session.refuse(Refusal::TooLong);
     }
-    match read_clear(s) {
-        Ok(c) => obey(session, filed, all, names, texts, lens, plans, s, c, reply),
-        Err(why) => session.refuse(why),
-    }
+    let c = read_clear(s);
+    obey(session, filed, all, names, texts, lens, plans, s, c, reply)
 }

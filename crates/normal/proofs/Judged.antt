@@ -16,13 +16,13 @@ use Rattle.paper.proofs.Test.{held}
 use Rattle.text.specs.Place.{Closes}
 use Rattle.text.specs.declared.read.Span.{Span}
 use Rattle.text.specs.declared.read.Closing.{Closing}
-use Rattle.command.specs.View.{width, text_in, content_of, setting_of, put_of, command_of, Holds, Shown, ContentShown}
+use Rattle.command.specs.View.{width, text_in, content_of, setting_of, put_of, view_of, Holds, Shown, ContentShown}
 use Rattle.command.specs.declared.Content.{Content}
 use Rattle.command.specs.declared.Content.TheVariants as C
 use Rattle.command.specs.declared.Put.{Put}
 use Rattle.command.specs.declared.Command.{Command}
 use Rattle.command.proofs.Judge.{put_ranges}
-use Rattle.normal.specs.Normal.{closes_with, held_at, shown_at, content_held, content_shown, command_held}
+use Rattle.normal.specs.Normal.{closes_with, held_at, shown_at, content_held, content_shown, record_held, readable}
 use Rattle.normal.proofs.Record.{held_holds, text_content}
 
 -- a string is held where the place and the length at which it closes are equal to the record's
@@ -164,5 +164,5 @@ unfolding P.in_range P.ranges P.filing_ranges P.all_of P.all
 names_star s name t u r p e o f q = q ∙ rw (← p, e, ← o, f) (simp and-true)
 
 -- a record by its case
-pub record_case : (s : List ℕ) (c x : Command) (r : Bool) → c ≡ x → r ≡ (command_held s x && P.in_range width (command_of s x)) → r ≡ (command_held s c && P.in_range width (command_of s c))
+pub record_case : (s : List ℕ) (c x : Command) (r : Bool) → c ≡ x → r ≡ (record_held s x && readable (view_of s x)) → r ≡ (record_held s c && readable (view_of s c))
 record_case s c x r e p = p ∙ rw e

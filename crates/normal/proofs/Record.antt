@@ -11,7 +11,8 @@ use Rattle.std.specs.Prelude.{Option, Some, None}
 use Rattle.paper.specs.Byte.{bytes, every, among}
 use Rattle.paper.specs.Line.{plain}
 use Rattle.paper.specs.Command as P
-use Rattle.paper.specs.Write.{content_text, normal}
+use Rattle.paper.specs.Read as Read
+use Rattle.paper.specs.Write.{content_text}
 use Rattle.paper.proofs.Law.{and_left, and_right}
 use Rattle.paper.proofs.Test.{tests, held}
 use Rattle.paper.proofs.Text.{among_every}
@@ -20,14 +21,14 @@ use Rattle.text.specs.Place.{from, closing, Closes}
 use Rattle.text.specs.declared.read.Span.{Span}
 use Rattle.text.specs.declared.read.Closing.{Closing}
 use Rattle.text.proofs.Quote.{closing_at}
-use Rattle.command.specs.View.{width, text_in, content_of, setting_of, put_of, command_of, Holds}
+use Rattle.command.specs.View.{width, text_in, content_of, setting_of, put_of, view_of, Holds}
 use Rattle.command.proofs.Judge.{put_ranges}
 use Rattle.command.specs.declared.Content.{Content}
 use Rattle.command.specs.declared.Content.TheVariants as C
 use Rattle.command.specs.declared.Put.{Put}
 use Rattle.command.specs.declared.Command.{Command}
 use Rattle.command.specs.declared.Command.TheVariants as M
-use Rattle.normal.specs.Normal.{Room, closes_with, held_at, content_held, command_held}
+use Rattle.normal.specs.Normal.{Room, closes_with, held_at, content_held, record_held, readable, reading_text}
 
 -- a string that is found at its place holds in the source
 pub held_holds : (s : List ℕ) (string : Span) → held_at s string ≡ true → Holds s string
@@ -82,33 +83,39 @@ text_mood s p e =
     (held (P.setting_ranges width (setting_of p.setting)) (and_left (P.all_of (P.setting_ranges width (setting_of p.setting))) (P.all_of (P.content_ranges (content_of s p.content))) (text_ranges s p e))).1.1.1.1.1.1.0.0
 
 -- a record by its case
-pub command_is : (s : List ℕ) (c x : Command) (u : List ℕ) → c ≡ x → u ≡ normal (command_of s x) → u ≡ normal (command_of s c)
-command_is s c x u e p = p ∙ rw e
+pub view_is : (s : List ℕ) (c x : Command) (u : List ℕ) → c ≡ x → u ≡ reading_text (view_of s x) → u ≡ reading_text (view_of s c)
+view_is s c x u e p = p ∙ rw e
 
 -- the string of a record closes
-pub record_closes : (s : List ℕ) (c x : Command) (string : Span) → command_held s c ≡ true → c ≡ x → command_held s x ≡ held_at s string → Closes s string.start string.end
+pub record_closes : (s : List ℕ) (c x : Command) (string : Span) → record_held s c ≡ true → c ≡ x → record_held s x ≡ held_at s string → Closes s string.start string.end
 record_closes s c x string h e p = (held_holds s string (sym p ∙ rw e at h)).closes
 
 -- a direction's letter is a byte
-pub direction_small : (s : List ℕ) (c : Command) (d : ℕ) → P.in_range width (command_of s c) ≡ true → c ≡ M.Direction d → d < 256
-unfolding command_of P.in_range P.ranges P.draw_ranges bytes every
+pub direction_small : (s : List ℕ) (c : Command) (d : ℕ) → readable (view_of s c) ≡ true → c ≡ M.Direction d → d < 256
+unfolding readable view_of P.in_range P.ranges P.draw_ranges bytes every
 direction_small s c d h e = letter_small (bytes "TB") d refl (held ((among (bytes "TB") d ∷ []) ∷ []) (rw e at h)).0.0
 
 -- a variable's number has two digits
-pub varying_small : (s : List ℕ) (c : Command) (n len : ℕ) (prompt : Span) → P.in_range width (command_of s c) ≡ true → c ≡ M.Varying n len prompt → n < 100
-unfolding command_of P.in_range P.ranges P.define_ranges
+pub varying_small : (s : List ℕ) (c : Command) (n len : ℕ) (prompt : Span) → readable (view_of s c) ≡ true → c ≡ M.Varying n len prompt → n < 100
+unfolding readable view_of P.in_range P.ranges P.define_ranges
 varying_small s c n len prompt h e = omega (tests, (held (P.ranges width (P.keep (P.define (P.varying n len 78 (text_in s prompt))))) (rw e at h)).0.0)
 
 -- a text record has its content's string
-pub text_held : (s : List ℕ) (c : Command) (p : Put) → command_held s c ≡ true → c ≡ M.Text p → content_held s p.content ≡ true
-unfolding command_held
+pub text_held : (s : List ℕ) (c : Command) (p : Put) → record_held s c ≡ true → c ≡ M.Text p → content_held s p.content ≡ true
+unfolding record_held
 text_held s c p h e = rw e at h
 
 -- and is in range
-pub text_is_in_range : (s : List ℕ) (c : Command) (p : Put) → P.in_range width (command_of s c) ≡ true → c ≡ M.Text p → P.in_range width (put_of s p) ≡ true
-unfolding command_of
+pub text_is_in_range : (s : List ℕ) (c : Command) (p : Put) → readable (view_of s c) ≡ true → c ≡ M.Text p → P.in_range width (put_of s p) ≡ true
+unfolding readable view_of
 text_is_in_range s c p h e = rw e at h
 
--- its normal form has room
-pub line_room : (out s : List ℕ) (c : Command) (u : List ℕ) → 256 ≤ length out → P.in_range width (command_of s c) ≡ true → u ≡ normal (command_of s c) → Room out 0 u
-line_room out s c u l h e = rw e (record { fits = omega (arith, normal_227 (command_of s c) h) })
+-- the normal form of what some line reads as has at most 227 bytes
+reading_length : (r : Read.Reading) → readable r ≡ true → length (reading_text r) ≤ 227
+unfolding readable reading_text
+reading_length (Read.command c) e = normal_227 c e
+reading_length (Read.unread r) e = omega arith
+
+-- and so it has room
+pub line_room : (out s : List ℕ) (c : Command) (u : List ℕ) → 256 ≤ length out → readable (view_of s c) ≡ true → u ≡ reading_text (view_of s c) → Room out 0 u
+line_room out s c u l h e = rw e (record { fits = omega (arith, reading_length (view_of s c) h) })

@@ -9,7 +9,7 @@ use lib.ListN.{length, take, drop}
 use lib.Seq.{take_at}
 use lib.Dec.{leb}
 use borrow.Author.Tests.{eq-eqb}
-use Rattle.std.specs.Prelude.{Result, Ok, Err}
+use Rattle.std.specs.Prelude.{Result, Ok}
 use Rattle.paper.specs.Command as P
 use Rattle.paper.specs.Read as Read
 use Rattle.paper.specs.Write as Write
@@ -19,7 +19,7 @@ use Rattle.paper.proofs.RoundTrip.{read_normal}
 use Rattle.text.specs.Place.{from, closing}
 use Rattle.text.specs.declared.read.Span.{Span}
 use Rattle.text.proofs.Quote.{length_from}
-use Rattle.command.specs.View.{width, text_in, view_of, Holds, ContentStands, CommandStands, Stand}
+use Rattle.command.specs.View.{width, text_in, view_of, Holds, ContentStands, Stand}
 use Rattle.command.specs.Answer.{Reports, Meets}
 use Rattle.command.specs.declared.Content.{Content}
 use Rattle.command.specs.declared.Content.TheVariants as C
@@ -28,7 +28,7 @@ use Rattle.command.specs.declared.Command.TheVariants as M
 use Rattle.command.specs.declared.Refusal.{Refusal}
 use Rattle.command.proofs.Outcome.{meets_one}
 use Rattle.line.specs.Given.{IsRead}
-use Rattle.normal.specs.Normal.{closes_with, held_at, content_held, command_held, record_held, write_reading, write_of, WritesLine}
+use Rattle.normal.specs.Normal.{closes_with, held_at, content_held, record_held, write_reading, write_of, WritesLine}
 
 -- an accepted call was not refused by the paper
 never_refused : {K : Type 0} (r : R.Refusal) (old new : List ℕ) (len : ℕ) → Meets (R.refused r) old new (Ok len) → K
@@ -52,14 +52,14 @@ reading_reads room (Read.command p) old new len =
 reading_reads room (Read.unread r) old new len = never_refused R.out_of_range old new len
 
 -- the bytes that an accepted call writes read as the record that it was given
-pub write_reads : (s : List ℕ) (c : Result Command Refusal) (old new : List ℕ) (len : ℕ) → WritesLine s c old new (Ok len) → Read.read width (take len new) ≡ view_of s c
+pub write_reads : (s : List ℕ) (c : Command) (old new : List ℕ) (len : ℕ) → WritesLine s c old new (Ok len) → Read.read width (take len new) ≡ view_of s c
 unfolding write_of
 write_reads s c old new len w =
     by_test (λ a. Meets a old new (Ok len) → Read.read width (take len new) ≡ view_of s c) (record_held s c) _ _
     (λ _. reading_reads (length old) (view_of s c) old new len) (λ _. never_refused R.out_of_range old new len) w.meets
 
 -- and no call of it has two outcomes
-pub write_unique : (s : List ℕ) (c : Result Command Refusal) (old new new' : List ℕ) (r r' : Result ℕ Refusal) → WritesLine s c old new r → WritesLine s c old new' r' → (new ≡ new') × (r ≡ r')
+pub write_unique : (s : List ℕ) (c : Command) (old new new' : List ℕ) (r r' : Result ℕ Refusal) → WritesLine s c old new r → WritesLine s c old new' r' → (new ≡ new') × (r ≡ r')
 write_unique s c old new new' r r' w w' = meets_one _ old new new' r r' w.meets w'.meets
 
 -- a string that holds is found at its place
@@ -80,37 +80,32 @@ content_is_held s (C.TextCounter string n) h = holds_held s string h.holds
 content_is_held s (C.TextVariable string n) h = holds_held s string h.holds
 
 -- the string of a record that stands in a line
-pub command_is_held : (s : List ℕ) (c : Command) → CommandStands s c → command_held s c ≡ true
-unfolding CommandStands command_held
-command_is_held s M.Empty h = refl
-command_is_held s M.New h = refl
-command_is_held s M.Finish h = refl
-command_is_held s M.Inform h = refl
-command_is_held s M.Ask h = refl
-command_is_held s (M.Size p₁ p₂) h = refl
-command_is_held s (M.Direction d) h = refl
-command_is_held s (M.Text put) h = content_is_held s put.content h
-command_is_held s (M.Black b) h = refl
-command_is_held s (M.Flip b) h = refl
-command_is_held s (M.White b) h = refl
-command_is_held s (M.Frame x₁ y₁ t x₂ y₂) h = refl
-command_is_held s (M.Counting n len step prompt) h = holds_held s prompt h.holds
-command_is_held s (M.Varying n len prompt) h = holds_held s prompt h.holds
-command_is_held s (M.Start name) h = holds_held s name h.holds
-command_is_held s (M.Recall name) h = holds_held s name h.holds
-command_is_held s (M.Delete name) h = holds_held s name h.holds
-command_is_held s (M.Print sets copies) h = refl
-
--- and that of what a line was read to
-pub stand_held : (s : List ℕ) (c : Result Command Refusal) → Stand s c → record_held s c ≡ true
+pub stand_held : (s : List ℕ) (c : Command) → Stand s c → record_held s c ≡ true
 unfolding Stand record_held
-stand_held s (Ok c) h = command_is_held s c h
-stand_held s (Err why) h = refl
+stand_held s M.Empty h = refl
+stand_held s M.New h = refl
+stand_held s M.Finish h = refl
+stand_held s M.Inform h = refl
+stand_held s M.Ask h = refl
+stand_held s (M.Size p₁ p₂) h = refl
+stand_held s (M.Direction d) h = refl
+stand_held s (M.Text put) h = content_is_held s put.content h
+stand_held s (M.Black b) h = refl
+stand_held s (M.Flip b) h = refl
+stand_held s (M.White b) h = refl
+stand_held s (M.Frame x₁ y₁ t x₂ y₂) h = refl
+stand_held s (M.Counting n len step prompt) h = holds_held s prompt h.holds
+stand_held s (M.Varying n len prompt) h = holds_held s prompt h.holds
+stand_held s (M.Start name) h = holds_held s name h.holds
+stand_held s (M.Recall name) h = holds_held s name h.holds
+stand_held s (M.Delete name) h = holds_held s name h.holds
+stand_held s (M.Print sets copies) h = refl
+stand_held s (M.Refused why) h = refl
 
 -- a record that was read is written as the paper writes the line's command
-written_as : (s : List ℕ) (room : ℕ) (c : Result Command Refusal) (p : P.Command) → IsRead s c → Read.read width s ≡ Read.command p → write_of s room c ≡ Write.write width room p
+written_as : (s : List ℕ) (room : ℕ) (c : Command) (p : P.Command) → IsRead s c → Read.read width s ≡ Read.command p → write_of s room c ≡ Write.write width room p
 unfolding write_of write_reading
 written_as s room c p h e = if_true (record_held s c) _ _ (stand_held s c h.stand) ∙ rw (h.view, e)
 
-pub read_writes : (s : List ℕ) (c : Result Command Refusal) (p : P.Command) (old new : List ℕ) (r : Result ℕ Refusal) → IsRead s c → Read.read width s ≡ Read.command p → WritesLine s c old new r → Meets (Write.write width (length old) p) old new r
+pub read_writes : (s : List ℕ) (c : Command) (p : P.Command) (old new : List ℕ) (r : Result ℕ Refusal) → IsRead s c → Read.read width s ≡ Read.command p → WritesLine s c old new r → Meets (Write.write width (length old) p) old new r
 read_writes s c p old new r h e w = rw (sym (written_as s (length old) c p h e)) w.meets

@@ -1,5 +1,5 @@
 -- Writing a record of a line: its normal form, whether some line reads as it, and what the writer answers.
-use Rattle.std.specs.Prelude.{ℕ, ◌+◌, ◌≤◌, Bool, true, false, ◌&&◌, List, [], ◌∷◌, length, eqb, Option, Some, None, Result, Ok, Err}
+use Rattle.std.specs.Prelude.{ℕ, ◌+◌, ◌≤◌, Bool, true, false, ◌&&◌, List, [], ◌∷◌, length, eqb, Option, Some, None, Result}
 use Rattle.paper.specs.Byte.{when◌then◌else◌, decimal, every}
 use Rattle.paper.specs.Line.{plain, quoted}
 use Rattle.paper.specs.Command as P
@@ -48,30 +48,26 @@ content_shown s (C.TextCounter string n) = shown_at s string
 content_shown s (C.TextVariable string n) = shown_at s string
 
 -- the string of a record, if it has one
-unfoldable pub command_held : List ℕ → Command → Bool
-command_held s M.Empty = true
-command_held s M.New = true
-command_held s M.Finish = true
-command_held s M.Inform = true
-command_held s M.Ask = true
-command_held s (M.Size p₁ p₂) = true
-command_held s (M.Direction d) = true
-command_held s (M.Text put) = content_held s put.content
-command_held s (M.Black b) = true
-command_held s (M.Flip b) = true
-command_held s (M.White b) = true
-command_held s (M.Frame x₁ y₁ t x₂ y₂) = true
-command_held s (M.Counting n len step prompt) = held_at s prompt
-command_held s (M.Varying n len prompt) = held_at s prompt
-command_held s (M.Start name) = held_at s name
-command_held s (M.Recall name) = held_at s name
-command_held s (M.Delete name) = held_at s name
-command_held s (M.Print sets copies) = true
-
--- that of what a line was read to, if it is a record
-unfoldable pub record_held : List ℕ → Result Command Refusal → Bool
-record_held s (Ok c) = command_held s c
-record_held s (Err why) = true
+unfoldable pub record_held : List ℕ → Command → Bool
+record_held s M.Empty = true
+record_held s M.New = true
+record_held s M.Finish = true
+record_held s M.Inform = true
+record_held s M.Ask = true
+record_held s (M.Size p₁ p₂) = true
+record_held s (M.Direction d) = true
+record_held s (M.Text put) = content_held s put.content
+record_held s (M.Black b) = true
+record_held s (M.Flip b) = true
+record_held s (M.White b) = true
+record_held s (M.Frame x₁ y₁ t x₂ y₂) = true
+record_held s (M.Counting n len step prompt) = held_at s prompt
+record_held s (M.Varying n len prompt) = held_at s prompt
+record_held s (M.Start name) = held_at s name
+record_held s (M.Recall name) = held_at s name
+record_held s (M.Delete name) = held_at s name
+record_held s (M.Print sets copies) = true
+record_held s (M.Refused why) = true
 
 -- there is room for a text at a place of a buffer
 pub record Room (buf : List ℕ) (at : ℕ) (text : List ℕ) : Type 0 where
@@ -86,15 +82,25 @@ bar_text second b =
 unfoldable pub name_text : ℕ → List ℕ → List ℕ
 name_text second name = 70 ∷ second ∷ quoted name
 
+-- a reading that some line has: a command in range
+unfoldable pub readable : Read.Reading → Bool
+readable (Read.command c) = P.in_range width c
+readable (Read.unread r) = false
+
+-- the normal form of a reading
+unfoldable pub reading_text : Read.Reading → List ℕ
+reading_text (Read.command c) = Write.normal c
+reading_text (Read.unread r) = []
+
 -- writing a reading
 unfoldable pub write_reading : ℕ → Read.Reading → R.Answer
 write_reading room (Read.command c) = Write.write width room c
 write_reading room (Read.unread r) = R.refused R.out_of_range
 
 -- writing a record with its source: 6 where no line reads as it, else the paper's writing of its reading
-unfoldable pub write_of : List ℕ → ℕ → Result Command Refusal → R.Answer
+unfoldable pub write_of : List ℕ → ℕ → Command → R.Answer
 write_of s room c = when record_held s c then write_reading room (view_of s c) else R.refused R.out_of_range
 
 -- `write_line`: that answer, with the lent buffer
-pub record WritesLine (s : List ℕ) (c : Result Command Refusal) (old new : List ℕ) (r : Result ℕ Refusal) : Type 0 where
+pub record WritesLine (s : List ℕ) (c : Command) (old new : List ℕ) (r : Result ℕ Refusal) : Type 0 where
   pub meets : Meets (write_of s (length old) c) old new r

@@ -6,8 +6,8 @@ ghost use Rattle.paper.specs.Command.{counter, variable, joined, size, direction
 ghost use Rattle.paper.specs.Write.{commaed, two, value_text, content_text, step_text, setting_text, normal};
 ghost use Rattle.text.specs.Place.{text_at, Closes};
 ghost use Rattle.text.specs.Write.{Writes};
-ghost use Rattle.command.specs.View.{width, text_in, step_of, content_of, setting_of, put_of, command_of};
-ghost use Rattle.normal.specs.Normal.{Room, bar_text, name_text, held_at, shown_at, content_held, content_shown, command_held, WritesLine};
+ghost use Rattle.command.specs.View.{width, text_in, step_of, content_of, setting_of, put_of, view_of};
+ghost use Rattle.normal.specs.Normal.{Room, bar_text, name_text, held_at, shown_at, content_held, content_shown, record_held, readable, reading_text, WritesLine};
 
 use command::range::{
     bar_in, content_in, counting_in, direction_in, frame_in, is_star, name_in, print_in,
@@ -314,9 +314,9 @@ fn put_print(out: &mut [u8], sets: usize, copies: usize) -> usize
 // The normal form of a record of a line, at the front of a buffer with room for the longest; its length.
 pub fn put_normal(out: &mut [u8], s: &[u8], c: Command) -> usize
     requires in_bounds { 256 ≤ length out.old }
-    requires c_value { command_held s.now c ≡ true }
-    requires c_value_2 { in_range width (command_of s.now c) ≡ true }
-    ensures { Writes out.old 0 (normal (command_of s.now c)) out.new result }
+    requires c_value { record_held s.now c ≡ true }
+    requires c_value_2 { readable (view_of s.now c) ≡ true }
+    ensures { Writes out.old 0 (reading_text (view_of s.now c)) out.new result }
 {
     match c {
         Command::Empty => 0,
@@ -342,6 +342,7 @@ pub fn put_normal(out: &mut [u8], s: &[u8], c: Command) -> usize
         Command::Recall { name } => put_name(out, b'R', s, name),
         Command::Delete { name } => put_name(out, b'K', s, name),
         Command::Print { sets, copies } => put_print(out, sets, copies),
+        Command::Refused { .. } => 0,
     }
 }
 
@@ -429,7 +430,7 @@ fn is_names(s: &[u8], name: Span) -> bool
 
 // A record that some line reads as.
 fn is_readable(s: &[u8], c: Command) -> bool
-    ensures { result ≡ (command_held s.now c && in_range width (command_of s.now c)) }
+    ensures { result ≡ (record_held s.now c && readable (view_of s.now c)) }
 {
     match c {
         Command::Empty | Command::New | Command::Finish | Command::Inform | Command::Ask => true,
@@ -448,16 +449,14 @@ fn is_readable(s: &[u8], c: Command) -> bool
         Command::Start { name } | Command::Recall { name } => is_name(s, name),
         Command::Delete { name } => is_names(s, name),
         Command::Print { sets, copies } => print_in(sets, copies),
+        Command::Refused { .. } => false,
     }
 }
 
 // Writes a record of a line in normal form: 6 for one that no line reads as, 15 for a short buffer, and then nothing written.
-pub fn write_line(s: &[u8], c: Result<Command, Refusal>, buf: &mut [u8]) -> Answer
+pub fn write_line(s: &[u8], c: Command, buf: &mut [u8]) -> Answer
     ensures { WritesLine s.now c buf.old buf.new result }
 {
-    let Ok(c) = c else {
-        return Err(Refusal::OutOfRange);
-    };
     if !is_readable(s, c) {
         return Err(Refusal::OutOfRange);
     }

@@ -207,7 +207,7 @@ pub record Removes (shelf : Shelf) (name : Name) (less : Shelf) : Type 0 where
 -- a record that was read is a line for a form
 pub record Keeps (s : List ℕ) (c : L.Command) : Type 0 where
   pub line : FormLine
-  pub is : view_of s (Ok c) ≡ command (keep line)
+  pub is : view_of s c ≡ command (keep line)
 
 -- a session that collects a form
 pub record Collects (session : Session) : Type 0 where

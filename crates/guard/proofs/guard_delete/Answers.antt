@@ -1,14 +1,14 @@
 -- The others are asked for any form that they hold open, and then the line is read: the star means them all.
 use borrow.Author.Rules.{rules}
 use Rattle.guard.proofs.Barring.{starred_named, watching_numbers, star_held}
-use Rattle.guard.proofs.Reading.{no_delete, other_delete, delete_read, names_delete, holds_delete, guards_delete, delete_unread, guards_unheld}
+use Rattle.guard.proofs.Reading.{delete_read, names_delete, holds_delete, guards_delete, delete_unread, guards_unheld}
 use Rattle.guard.proofs.guard_delete.Goals as goal
 
 pub is_beside-requires : goal.is_beside-requires
 is_beside-requires c = search watching_numbers
 
 pub returns-in_default : goal.returns-in_default
-returns-in_default c = delete_unread _ _ _ _ _ c.requires.led (delete_read _ _ c.requires.led c.name_line.ensures) (no_delete _ c.in_default.not-Ok)
+returns-in_default c = delete_unread _ _ _ _ _ c.requires.led (delete_read _ _ c.requires.led c.name_line.ensures) c.in_default.not-Delete
 
 pub is_star-requires : goal.is_star-requires
 is_star-requires c = search (holds_delete, delete_read)
@@ -24,6 +24,3 @@ returns-then-is_beside c = search (guards_delete, delete_read)
 
 pub returns : goal.returns
 returns c = search guards_unheld
-
-pub returns-in_default-command : goal.returns-in_default-command
-returns-in_default-command c = delete_unread _ _ _ _ _ c.requires.led (delete_read _ _ c.requires.led c.name_line.ensures) (other_delete _ _ c.in-Ok.is c.in_default-command.not-Delete)

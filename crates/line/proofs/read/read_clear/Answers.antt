@@ -4,4 +4,4 @@ use Rattle.line.proofs.Whole.{read_shape}
 use Rattle.line.proofs.read.read_clear.Goals as goal
 
 pub returns : goal.returns
-returns c = search (rules, read_shape)
+returns c = rw c.record.ensures (search (rules, read_shape))

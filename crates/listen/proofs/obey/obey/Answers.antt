@@ -1,6 +1,6 @@
 -- Each command is obeyed by its own function, and every other line is one for a form. Each need stands by itself, so that each has the checker's steps to itself.
 use borrow.Author.Rules.{rules}
-use Rattle.listen.proofs.Heeding.{obeys_empty, names_start, names_recall, names_delete, prints_some, prints_few, keeps_line, heeds_empty, heeds_new, heeds_start, heeds_finish, heeds_inform, heeds_recall, heeds_delete, heeds_ask, heeds_print, heeds_keep}
+use Rattle.listen.proofs.Heeding.{obeys_empty, names_start, names_recall, names_delete, prints_some, prints_few, keeps_line, heeds_empty, heeds_new, heeds_start, heeds_finish, heeds_inform, heeds_recall, heeds_delete, heeds_ask, heeds_print, heeds_refused, heeds_keep}
 use Rattle.listen.proofs.obey.obey.Goals as goal
 
 pub start-requires : goal.start-requires
@@ -16,7 +16,7 @@ pub print-requires : goal.print-requires
 print-requires c = record { planned = search rules; le_sets = (prints_some _ _ _ _ c.requires.read c.in-Print.is, prints_few _ _ _ _ c.requires.read c.in-Print.is) }
 
 pub keep-requires : goal.keep-requires
-keep-requires c = record { kept = search rules; read = c.requires.read; keeps = keeps_line _ _ (record { no_empty = c.in_default.not-Empty; no_new = c.in_default.not-New; no_start = c.in_default.not-Start; no_finish = c.in_default.not-Finish; no_inform = c.in_default.not-Inform; no_recall = c.in_default.not-Recall; no_delete = c.in_default.not-Delete; no_ask = c.in_default.not-Ask; no_print = c.in_default.not-Print }) }
+keep-requires c = record { kept = search rules; read = c.requires.read; keeps = keeps_line _ _ (record { no_empty = c.in_default.not-Empty; no_new = c.in_default.not-New; no_start = c.in_default.not-Start; no_finish = c.in_default.not-Finish; no_inform = c.in_default.not-Inform; no_recall = c.in_default.not-Recall; no_delete = c.in_default.not-Delete; no_ask = c.in_default.not-Ask; no_print = c.in_default.not-Print; no_refused = c.in_default.not-Refused }) }
 
 pub returns-in-Empty-clause-value : goal.returns-in-Empty-clause-value
 returns-in-Empty-clause-value c = heeds_empty _ _ _ _ c.requires.read _ _ _ _ _ c.requires.not_answering (search rules) (obeys_empty _ _ _)
@@ -45,5 +45,8 @@ returns-in-Ask-clause-value c = heeds_ask _ _ _ _ c.requires.read _ _ _ _ _ c.re
 pub returns-in-Print-clause-value : goal.returns-in-Print-clause-value
 returns-in-Print-clause-value c = heeds_print _ _ _ _ c.requires.read _ _ _ _ _ c.requires.not_answering _ _ (search rules) ((c.print.ensures.value.follows _).heeds _)
 
+pub returns-in-Refused-clause-value : goal.returns-in-Refused-clause-value
+returns-in-Refused-clause-value c = heeds_refused _ _ _ _ _ _ c.requires.not_answering _ _ c.requires.read c.in-Refused.is c.refuse.ensures.value
+
 pub returns-in_default-clause-value : goal.returns-in_default-clause-value
-returns-in_default-clause-value c = let k = keeps_line _ _ (record { no_empty = c.in_default.not-Empty; no_new = c.in_default.not-New; no_start = c.in_default.not-Start; no_finish = c.in_default.not-Finish; no_inform = c.in_default.not-Inform; no_recall = c.in_default.not-Recall; no_delete = c.in_default.not-Delete; no_ask = c.in_default.not-Ask; no_print = c.in_default.not-Print }) in heeds_keep _ _ _ _ c.requires.read _ _ _ _ _ c.requires.not_answering k (((c.keep.ensures.value k).minds _).heeds _)
+returns-in_default-clause-value c = let k = keeps_line _ _ (record { no_empty = c.in_default.not-Empty; no_new = c.in_default.not-New; no_start = c.in_default.not-Start; no_finish = c.in_default.not-Finish; no_inform = c.in_default.not-Inform; no_recall = c.in_default.not-Recall; no_delete = c.in_default.not-Delete; no_ask = c.in_default.not-Ask; no_print = c.in_default.not-Print; no_refused = c.in_default.not-Refused }) in heeds_keep _ _ _ _ c.requires.read _ _ _ _ _ c.requires.not_answering k (((c.keep.ensures.value k).minds _).heeds _)

@@ -1,6 +1,6 @@
 -- A piece of input, fill by fill, and the reads one after the other.
 use Prim.Native.Nat.{ℕ, ◌+◌, ◌-◌, ◌*◌, ◌^◌, ◌≤◌, ◌<◌}
-use mathlib.Core.Path.{◌≡◌, refl, ◌∙◌, ap}
+use mathlib.Core.Path.{◌≡◌, refl, ◌∙◌}
 use mathlib.Core.Bool.{Bool, true, false, false≢true}
 use mathlib.Core.List.{List}
 use native.Mathlib.Omega.{arith}
@@ -14,9 +14,8 @@ use Rattle.paper.proofs.Alone.{begin_alone}
 use Rattle.paper.proofs.Test.{either}
 use Rattle.text.specs.Place.{from}
 use Rattle.std.proofs.Common.{Option, Some, Result, Ok, Err}
-use Rattle.streams.specs.Streams.{bytes_of, Reads, Writes}
+use Rattle.streams.specs.Streams.{bytes_of, Writes}
 use Rattle.streams.specs.declared.errors.Errno.{Errno}
-use Rattle.streams.proofs.Telling.{of_bytes}
 use Rattle.call.specs.Call.{Memory}
 use Rattle.tablets.specs.Calls.{Reached, Begins}
 use Rattle.tablets.proofs.Leading.{begins_on}
@@ -184,12 +183,10 @@ module _ (run : Run) (memory : Memory) (waiting : List ℕ) (read : Result (Opti
   obeys_nothing r e t is = rw is (obeys_none e t)
 
 -- or it brought some bytes
-pub obeys_bytes : (d : Desk) (read : Result (Option ℕ) Errno) (input : List ℕ) (n : ℕ) (e : Desk) (next : ℕ) (going : Bool) → read ≡ Ok (Some n) → Reads input read → Passes d (take n input) e next going
+pub obeys_bytes : (d : Desk) (read : Result (Option ℕ) Errno) (input : List ℕ) (n : ℕ) (e : Desk) (next : ℕ) (going : Bool) → read ≡ Ok (Some n) → (n ≡ 0 → ⊥) → Passes d (take n input) e next going
     → Obeys d read input e next going
-obeys_bytes d read input n e next going is reads p =
-    let some = of_bytes input reads is in
-    let count : bytes_of read ≡ n = ap bytes_of is in
-    record { passes = rw is p; stops = λ z. absurd (omega (arith, some.0, count, z)) }
+obeys_bytes d read input n e next going is some p =
+    record { passes = rw is p; stops = λ z. absurd (some (rw is at z)) }
 
 -- they can be counted
 pub bytes_counted : (d : Desk) (input : List ℕ) (n : ℕ) → StandsAt d (length input) → StandsAt d (length (take n input))

@@ -1,7 +1,9 @@
 -- By what the read came to.
 use mathlib.Core.Path.{◌≡◌, ◌∙◌, ap}
 use Rattle.std.proofs.Common.{Some, None, Ok}
+use native.Mathlib.Omega.{arith}
 use Rattle.streams.specs.Streams.{bytes_of}
+use Rattle.streams.proofs.Telling.{of_bytes}
 use Rattle.class_program.proofs.Passing.{obeys_bytes, obeys_nothing}
 use Rattle.class_program.proofs.obey.Goals as goal
 
@@ -16,7 +18,8 @@ returns-in-Ok-None g c =
 pub returns-in-Ok-Some : goal.returns-in-Ok-Some
 returns-in-Ok-Some g c =
     let some : c.in-Ok-Some.field-0 ≡ Some c.in-Ok-Some.n = rw c.in-Ok-Some.is at c.in-Ok-Some.field-0-is in
-    obeys_bytes _ _ _ _ _ _ _ (c.in-Ok-Some.is ∙ ap Ok some) c.requires.reads c.pass.ensures
+    let brought = of_bytes _ c.requires.reads (c.in-Ok-Some.is ∙ ap Ok some) in
+    obeys_bytes _ _ _ _ _ _ _ (c.in-Ok-Some.is ∙ ap Ok some) (λ z. omega (arith, brought.0, z)) c.pass.ensures
 
 pub returns-in-Err : goal.returns-in-Err
 returns-in-Err g c = obeys_nothing _ _ _ _ _ _ (ap bytes_of c.in-Err.is) c.requires.stands c.ended-in-Err.ensures

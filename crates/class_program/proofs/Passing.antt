@@ -1,11 +1,10 @@
 -- A piece of input, fill by fill, and the reads one after the other.
 use Prim.Native.Nat.{ℕ, ◌≤◌, ◌<◌}
-use mathlib.Core.Path.{◌≡◌, refl, sym, ◌∙◌}
+use mathlib.Core.Path.{◌≡◌, refl, ◌∙◌}
 use mathlib.Core.Bool.{Bool, true, false, false≢true}
 use mathlib.Core.List.{List}
 use native.Mathlib.Omega.{arith}
 use lib.ListN.{length, take, length-append, length-take}
-use lib.IntN.{ℤ}
 use Rattle.paper.specs.Line.{kept}
 use Rattle.paper.proofs.Test.{either}
 use Rattle.text.specs.Place.{from}
